@@ -1,0 +1,11 @@
+-- Sheets of jobs with known arrivals.
+-- A reader believes these:
+pub mod Model
+pub mod Table
+pub mod Form
+-- What follows:
+pub mod ModelTests
+pub mod Obeys
+pub mod Demand3
+pub mod Sentences
+pub mod Starred

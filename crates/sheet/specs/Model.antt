@@ -1,0 +1,110 @@
+-- The rules of the scope paper, "Sheet" to "Safe states", as definitions. Jobs are counted from 1.
+use Prim.Native.Nat.{ℕ, _+_, _-_, _*_, _^_, _≤_, _<_}
+use mathlib.Core.Path.{_≡_}
+use mathlib.Core.Logic.{_≢_}
+use mathlib.Core.Bool.{Bool, cond}
+use mathlib.Core.List.{List, [], _∷_}
+use lib.ListN.{length, getD, set, replicate}
+use lib.Dec.{eqb}
+use Rattle.plant.specs.Plant.{Plant, Event, tick, arrival, start, ending}
+use Rattle.plant.specs.Search.{every, some}
+
+-- Sheet ---------------------------------------------------------------------------------------------------------------
+
+pub record Job : Type 0 where
+  pub arrives : ℕ
+  pub fewest : ℕ
+  pub most : ℕ
+  pub due : ℕ
+
+abbrev pub Sheet : Type 0
+Sheet = List Job
+
+-- `i` is the number of a job of the sheet
+abbrev pub Names : Sheet → ℕ → Type 0
+Names σ i = (1 ≤ i) × (i ≤ length σ)
+
+abbrev pub job : Sheet → ℕ → Job
+job σ i = getD σ (i - 1) (record { arrives = 0; fewest = 0; most = 0; due = 0 })
+
+pub record Good-job (j : Job) : Type 0 where
+  pub some-ticks : 1 ≤ j .fewest
+  pub ordered : j .fewest ≤ j .most
+  pub fits : j .most ≤ j .due
+  pub early : j .arrives + j .due ≤ 255
+
+pub record Good (σ : Sheet) : Type 0 where
+  pub some-job : 1 ≤ length σ
+  pub few-jobs : length σ ≤ 8
+  pub each : (i : ℕ) → Names σ i → Good-job (job σ i)
+
+-- States and events ---------------------------------------------------------------------------------------------------
+
+-- the eight statuses: 0 not arrived, 1 ready, 2 running, 3 done, and 0 past the last job
+pub record State : Type 0 where
+  pub now : ℕ
+  pub elapsed : ℕ
+  pub statuses : List ℕ
+
+abbrev pub status : State → ℕ → ℕ
+status q i = getD (q .statuses) (i - 1) 0
+
+-- at the start
+abbrev pub initial : State
+initial = record { now = 0; elapsed = 0; statuses = replicate 8 0 }
+
+abbrev pub Possible : Sheet → State → Event → Type 0
+Possible σ q (arrival i) = Names σ i × (status q i ≡ 0) × (q .now ≡ job σ i .arrives)
+Possible σ q (start i) = Names σ i × (status q i ≡ 1) × ((j : ℕ) → Names σ j → status q j ≢ 2)
+Possible σ q (ending i) = Names σ i × (status q i ≡ 2) × (job σ i .fewest ≤ q .elapsed)
+Possible σ q tick =
+    ((i : ℕ) → Names σ i → status q i ≡ 0 → q .now ≢ job σ i .arrives)
+    × ((i : ℕ) → Names σ i → status q i ≡ 2 → q .elapsed ≢ job σ i .most)
+
+abbrev pub Finished : Sheet → State → Type 0
+Finished σ q = (i : ℕ) → Names σ i → status q i ≡ 3
+
+-- the same as a test
+abbrev pub finished : Sheet → State → Bool
+finished σ q = every (length σ) (λ i. eqb (status q i) 3)
+
+-- does a job run
+abbrev pub busy : Sheet → State → Bool
+busy σ q = some (length σ) (λ i. eqb (status q i) 2)
+
+-- all finished states are one: now 0, elapsed 0
+abbrev pub merged : Sheet → State → State
+merged σ q = cond (finished σ q) (record { now = 0; elapsed = 0; statuses = q .statuses }) q
+
+-- what an event leads to, where it is possible
+abbrev pub next : Sheet → State → Event → State
+next σ q (arrival i) = record { now = q .now; elapsed = q .elapsed; statuses = set (q .statuses) (i - 1) 1 }
+next σ q (start i) = record { now = q .now; elapsed = 0; statuses = set (q .statuses) (i - 1) 2 }
+next σ q (ending i) = merged σ (record { now = q .now; elapsed = 0; statuses = set (q .statuses) (i - 1) 3 })
+next σ q tick =
+    cond (finished σ q) q
+    (record { now = q .now + 1; elapsed = cond (busy σ q) (q .elapsed + 1) (q .elapsed); statuses = q .statuses })
+
+-- some arrived, unfinished job is past its due tick
+pub record Late-job (σ : Sheet) (q : State) (i : ℕ) : Type 0 where
+  pub names : Names σ i
+  pub arrived : 1 ≤ status q i
+  pub unfinished : status q i ≤ 2
+  pub past : job σ i .arrives + job σ i .due < q .now
+
+abbrev pub Late : Sheet → State → Type 0
+Late σ q = (i : ℕ) × Late-job σ q i
+
+-- State word ----------------------------------------------------------------------------------------------------------
+
+-- the sum over jobs i of status × 4^(i − 1)
+unfoldable pub digits-word : List ℕ → ℕ
+digits-word [] = 0
+digits-word (s ∷ l) = s + 4 * digits-word l
+
+abbrev pub word : State → ℕ
+word q = q .now * 2 ^ 24 + q .elapsed * 2 ^ 16 + digits-word (q .statuses)
+
+-- the sheet as a plant: `Plant` and `Rule` say of it what is live, safe, a row, a rule, a run, the table
+abbrev pub plant : Sheet → Plant
+plant σ = record { State = State; initial = initial; Possible = Possible σ; next = next σ; Late = Late σ }

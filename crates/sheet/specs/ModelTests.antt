@@ -1,0 +1,82 @@
+-- The rules as tests that compute, each with the proof that it says what `Model` says. Assumes nothing.
+use Prim.Native.Nat.{ℕ, zero, suc, _+_, _-_, _≤_, _<_}
+use mathlib.Core.Logic.{_⊎_, inl, inr, _≢_}
+use mathlib.Core.Path.{_≡_}
+use mathlib.Core.Bool.{Bool, true, false, not, cond, _&&_, _||_}
+use lib.ListN.{length}
+use lib.Dec.{T, eqb, leb, ltb}
+use Rattle.plant.specs.Plant.{Event, tick, arrival, start, ending}
+use Rattle.plant.specs.Search.{every, some}
+use Rattle.sheet.specs.Model.{Job, Sheet, Names, job, State, status, Possible, Finished, finished, busy, Late, Late-job}
+use Rattle.plant.specs.Search.{In, find}
+use Rattle.plant.specs.Reflect.{Is, is-map, is-le, is-eq, is-and, is-and3, is-not, is-dec, stable, is-every, is-some}
+
+abbrev pub named : Sheet → ℕ → Bool
+named σ i = leb 1 i && leb i (length σ)
+
+abbrev pub possible : Sheet → State → Event → Bool
+possible σ q (arrival i) = named σ i && (eqb (status q i) 0 && eqb (q .now) (job σ i .arrives))
+possible σ q (start i) = named σ i && (eqb (status q i) 1 && not (busy σ q))
+possible σ q (ending i) = named σ i && (eqb (status q i) 2 && leb (job σ i .fewest) (q .elapsed))
+possible σ q tick =
+    every (length σ) (λ i. not (eqb (status q i) 0 && eqb (q .now) (job σ i .arrives)))
+    && every (length σ) (λ i. not (eqb (status q i) 2 && eqb (q .elapsed) (job σ i .most)))
+
+abbrev pub late : Sheet → State → Bool
+late σ q = some (length σ) (λ i. leb 1 (status q i) && (leb (status q i) 2 && ltb (job σ i .arrives + job σ i .due) (q .now)))
+
+module _ (σ : Sheet) (q : State) where
+  is-named : (i : ℕ) → Is (named σ i) (Names σ i)
+  is-named i = is-and (is-le 1 i) (is-le i (length σ))
+
+  pub is-finished : Is (finished σ q) (Finished σ q)
+  is-finished = is-every (length σ) (λ i h. is-eq (status q i) 3)
+
+  pub is-busy : Is (busy σ q) ((j : ℕ) × Names σ j × (status q j ≡ 2))
+  is-busy = is-some (length σ) (λ j h. is-eq (status q j) 2)
+
+  pub is-possible : (e : Event) → Is (possible σ q e) (Possible σ q e)
+  is-possible (arrival i) = is-and3 (is-named i) (is-eq (status q i) 0) (is-eq (q .now) (job σ i .arrives))
+  is-possible (start i) = is-and3 (is-named i) (is-eq (status q i) 1) (is-map (λ n j h e. n (j, h, e)) (λ f w. f (w .0) (w .1) (w .2)) (is-not is-busy))
+  is-possible (ending i) = is-and3 (is-named i) (is-eq (status q i) 2) (is-le (job σ i .fewest) (q .elapsed))
+  is-possible tick =
+      is-and
+      (is-every (length σ) (λ i h. curry (is-not (is-and (is-eq (status q i) 0) (is-eq (q .now) (job σ i .arrives))))))
+      (is-every (length σ) (λ i h. curry (is-not (is-and (is-eq (status q i) 2) (is-eq (q .elapsed) (job σ i .most))))))
+    where
+      curry : {b : Bool} {P Q : Type 0} → Is b (¬ (P × Q)) → Is b (P → ¬ Q)
+      curry r = is-map (λ n p q. n (p, q)) (λ f w. f (w .0) (w .1)) r
+
+  pub is-late : Is (late σ q) (Late σ q)
+  is-late =
+      is-map
+      (λ w. (w .0, record { names = w .1; arrived = w .2 .0; unfinished = w .2 .1; past = w .2 .2 }))
+      (λ w. (w .0, w .1 .names, (w .1 .arrived, w .1 .unfinished, w .1 .past)))
+      (is-some (length σ) (λ i h. is-and3 (is-le 1 (status q i)) (is-le (status q i) 2) (is-le (suc (job σ i .arrives + job σ i .due)) (q .now))))
+
+  pub dec-finished : Dec (Finished σ q)
+  dec-finished = is-dec is-finished
+
+  -- a job that is not done
+  pub unfinished : ¬ (Finished σ q) → (i : ℕ) × Names σ i × (status q i ≢ 3)
+  unfinished nf = go (find (length σ) (λ i. status q i ≢ 3) (λ i. is-dec (is-not (is-eq (status q i) 3))))
+    where
+      go : ((i : ℕ) × In (length σ) i × (status q i ≢ 3)) ⊎ ((i : ℕ) → In (length σ) i → ¬ (status q i ≢ 3)) → (i : ℕ) × Names σ i × (status q i ≢ 3)
+      go (inl w) = w
+      go (inr f) = absurd (nf (λ i h. stable (is-dec (is-eq (status q i) 3)) (f i h)))
+
+  -- the tick is possible, or an arrival is pending, or the running job has had its most ticks
+  abbrev pub Held : Type 0
+  Held = ((i : ℕ) × Possible σ q (arrival i)) ⊎ ((i : ℕ) × Names σ i × (status q i ≡ 2) × (q .elapsed ≡ job σ i .most))
+
+  pub tick-or : Possible σ q tick ⊎ Held
+  tick-or =
+      go (find (length σ) (λ i. (status q i ≡ 0) × (q .now ≡ job σ i .arrives)) (λ i. is-dec (is-and (is-eq (status q i) 0) (is-eq (q .now) (job σ i .arrives)))))
+      (find (length σ) (λ i. (status q i ≡ 2) × (q .elapsed ≡ job σ i .most)) (λ i. is-dec (is-and (is-eq (status q i) 2) (is-eq (q .elapsed) (job σ i .most)))))
+    where
+      go : ((i : ℕ) × In (length σ) i × ((status q i ≡ 0) × (q .now ≡ job σ i .arrives))) ⊎ ((i : ℕ) → In (length σ) i → ¬ ((status q i ≡ 0) × (q .now ≡ job σ i .arrives)))
+          → ((i : ℕ) × In (length σ) i × ((status q i ≡ 2) × (q .elapsed ≡ job σ i .most))) ⊎ ((i : ℕ) → In (length σ) i → ¬ ((status q i ≡ 2) × (q .elapsed ≡ job σ i .most)))
+          → Possible σ q tick ⊎ Held
+      go (inl w) s = inr (inl (w .0, (w .1, w .2 .0, w .2 .1)))
+      go (inr f) (inl w) = inr (inr (w .0, w .1, w .2 .0, w .2 .1))
+      go (inr f) (inr g) = inl ((λ i h z n. f i h (z, n)), (λ i h z n. g i h (z, n)))
