@@ -3,10 +3,10 @@ use Prim.Native.Nat.{ℕ}
 use mathlib.Core.Path.{_≡_, refl, sym, ap, subst}
 use mathlib.Core.Logic.{_⊎_, inl, inr, _↔_}
 use mathlib.Core.List.{List, [], _∷_, _++_}
-use Rattle.plant.specs.Plant.{Plant, Event, tick, arrival, start, ending, Via, at-start, after, Live, Leads, Safe, Row}
+use Rattle.plant.specs.Plant.{Plant, Event, tick, arrival, start, ending, Via, at-start, after, Live, Safe, Row}
 use Rattle.plant.specs.Rule.{Rule, reached, Run, begin, more, Admissible, Allowed, Table}
 use Rattle.plant.specs.Asked.{Tests, Finite, Moves}
-use Rattle.plant.specs.SafeLaws.{safe-leads, safe-live, safe-not-late, Weakly, largest}
+use Rattle.plant.specs.SafeLaws.{safe-leads, safe-not-late, Weakly, largest}
 
 module _ (π : Plant) where
   open Plant π using (State, initial, Possible, next, Late)
@@ -47,7 +47,7 @@ module _ (π : Plant) where
   -- A rule that looks at the state alone, and leads from states of a kind to states of it -------------------------------
 
   module _ (S : State → Type 0) (A : State → Event → Type 0) where
-    -- of a state: nothing that can't be stopped is stopped, and what is not stopped leads to the kind (#110's test)
+    -- of a state: nothing that can't be stopped is stopped, and what is not stopped leads to the kind
     pub record Kept (q : State) : Type 0 where
       pub in-time : ¬ (Late q)
       pub arrivals : (i : ℕ) → Possible q (arrival i) → A q (arrival i)
@@ -76,7 +76,7 @@ module _ (π : Plant) where
           clock h nt none (inl a) = nt a
           clock h nt none (inr w) = none (w .0) (w .1) (w .2)
 
-      -- T1: its runs are never stuck
+      -- its runs are never stuck
       pub never-stuck : Moves π → (h : List Event) → Run π By-state h → (e : Event) × Possible (reached π h) e × By-state h e
       never-stuck moves h r = go (moves q)
         where
@@ -102,7 +102,7 @@ module _ (π : Plant) where
     leads = λ e p x. safe-next s e p x;
   }
 
-  -- and so it is on its rows (#110: the maker's tables are accepted)
+  -- and so it is on its rows
   pub row-safe : {q : State} → Row π q → Safe π q
   row-safe (at-start s) = s
   row-safe (after e v p s) = s
@@ -139,7 +139,10 @@ module _ (π : Plant) where
       go : (h : List Event) × Run π (Table π) h × (reached π h ≡ q) → (h : List Event) × Run π (Table π) h × (reached π h ≡ next q e)
       go w = (e ∷ w .0, more e (w .1) (subst (λ (x : State). Possible x e) (sym (w .2)) p) (allowed (reached π (w .0)) e (subst (λ (x : State). Safe π (next x e)) (sym (w .2)) s)), ap (λ (x : State). next x e) (w .2))
 
-  -- T3: no admissible rule permits a run that the table forbids ---------------------------------------------------------
+  pub rows-of-runs : Safe π initial → (q : State) → Row π q ↔ ((h : List Event) × Run π (Table π) h × (reached π h ≡ q))
+  rows-of-runs s q = (row-run, λ w. subst (Row π) (w .2) (run-row s (w .1)))
+
+  -- no admissible rule permits a run that the table forbids ---------------------------------------------------------
 
   module _ (t : Tests π) (f : Finite π) where
     module _ (R : Rule) (adm : Admissible π R) where
@@ -164,7 +167,7 @@ module _ (π : Plant) where
       table-permits begin = begin
       table-permits (more {h = k} e r p x) = more e (table-permits r) p (allowed (reached π k) e (permitted-safe (e ∷ k) (more e r p x)))
 
-    -- T4: there is a table exactly where there is an admissible rule
+    -- there is a table exactly where there is an admissible rule
     pub safe-iff-rule : Safe π initial ↔ ((R : Rule) × Admissible π R)
     safe-iff-rule = ((λ s. (Table π, table-admissible s)), (λ w. permitted-safe (w .0) (w .1) [] begin))
 

@@ -4,8 +4,11 @@ pub mod Model
 pub mod Table
 pub mod Form
 -- What follows:
+pub mod WordLaws
 pub mod ModelTests
 pub mod Obeys
+pub mod OrderLaws
+pub mod RowsLaws
 pub mod Demand3
 pub mod Sentences
 pub mod Starred

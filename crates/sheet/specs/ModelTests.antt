@@ -1,13 +1,13 @@
--- The rules as tests that compute, each with the proof that it says what `Model` says. Assumes nothing.
-use Prim.Native.Nat.{ℕ, zero, suc, _+_, _-_, _≤_, _<_}
+-- The rules as tests that compute, each with the law that it says what `Model` says. Assumes nothing.
+use Prim.Native.Nat.{ℕ, suc, _+_, _-_}
 use mathlib.Core.Logic.{_⊎_, inl, inr, _≢_}
 use mathlib.Core.Path.{_≡_}
-use mathlib.Core.Bool.{Bool, true, false, not, cond, _&&_, _||_}
+use mathlib.Core.Bool.{Bool, not, _&&_}
 use lib.ListN.{length}
-use lib.Dec.{T, eqb, leb, ltb}
+use lib.Dec.{eqb, leb, ltb}
 use Rattle.plant.specs.Plant.{Event, tick, arrival, start, ending}
 use Rattle.plant.specs.Search.{every, some}
-use Rattle.sheet.specs.Model.{Job, Sheet, Names, job, State, status, Possible, Finished, finished, busy, Late, Late-job}
+use Rattle.sheet.specs.Model.{Job, Sheet, Names, job, Good-job, Good, State, status, Possible, Finished, finished, busy, Late}
 use Rattle.plant.specs.Search.{In, find}
 use Rattle.plant.specs.Reflect.{Is, is-map, is-le, is-eq, is-and, is-and3, is-not, is-dec, stable, is-every, is-some}
 
@@ -24,6 +24,26 @@ possible σ q tick =
 
 abbrev pub late : Sheet → State → Bool
 late σ q = some (length σ) (λ i. leb 1 (status q i) && (leb (status q i) 2 && ltb (job σ i .arrives + job σ i .due) (q .now)))
+
+abbrev pub good-job : Job → Bool
+good-job j = leb 1 (j .fewest) && (leb (j .fewest) (j .most) && (leb (j .most) (j .due) && leb (j .arrives + j .due) 255))
+
+abbrev pub good : Sheet → Bool
+good σ = leb 1 (length σ) && (leb (length σ) 8 && every (length σ) (λ i. good-job (job σ i)))
+
+pub is-good-job : (j : Job) → Is (good-job j) (Good-job j)
+is-good-job j =
+    is-map
+    (λ w. record { some-ticks = w .0; ordered = w .1; fits = w .2 .0; early = w .2 .1 })
+    (λ g. (g .some-ticks, g .ordered, (g .fits, g .early)))
+    (is-and3 (is-le 1 (j .fewest)) (is-le (j .fewest) (j .most)) (is-and (is-le (j .most) (j .due)) (is-le (j .arrives + j .due) 255)))
+
+pub is-good : (σ : Sheet) → Is (good σ) (Good σ)
+is-good σ =
+    is-map
+    (λ w. record { some-job = w .0; few-jobs = w .1; each = w .2 })
+    (λ g. (g .some-job, g .few-jobs, g .each))
+    (is-and3 (is-le 1 (length σ)) (is-le (length σ) 8) (is-every (length σ) (λ i h. is-good-job (job σ i))))
 
 module _ (σ : Sheet) (q : State) where
   is-named : (i : ℕ) → Is (named σ i) (Names σ i)

@@ -1,9 +1,9 @@
 -- The plant of a sheet meets the laws. Assumes nothing.
-use Prim.Native.Nat.{ℕ, zero, suc, _+_, _-_, _*_, _≤_, _<_}
+use Prim.Native.Nat.{ℕ, _+_, _-_, _≤_}
 use native.Mathlib.Omega.{arith}
 use native.Mathlib.Decide.{ℕ-discrete, decLe}
 use mathlib.Core.Path.{_≡_, refl, sym, ap, subst, _∙_}
-use mathlib.Core.Logic.{_≢_, _⊎_, inl, inr}
+use mathlib.Core.Logic.{_⊎_, inl, inr}
 use mathlib.Core.Bool.{Bool, true, false, cond, _&&_}
 use mathlib.Core.List.{List}
 use lib.ListN.{length, set, getD}
@@ -12,11 +12,11 @@ use Rattle.plant.specs.Plant.{Event, tick, arrival, start, ending}
 use Rattle.plant.specs.Reflect.{Is, is-map, is-eq, is-and3, is-true, is-false}
 use Rattle.plant.specs.Lists.{same-list, is-same-list}
 use Rattle.plant.specs.Asked.{Named, Tests, Moves}
-use Rattle.plant.specs.Sums.{greatest, le-greatest}
+use Rattle.plant.specs.Sums.{le-greatest}
 use Rattle.plant.specs.Shop.{Shop, turn, older, longer}
 use Rattle.plant.specs.Turns.{turned, length-turned, turned-at, zeros-at, was-zero, Here, was-here}
 use Rattle.plant.specs.Once.{Once, on}
-use Rattle.sheet.specs.Model.{Job, Sheet, Names, job, Good, Good-job, State, status, initial, Possible, Finished, finished, busy, merged, next, Late, Late-job, plant}
+use Rattle.sheet.specs.Model.{Sheet, Names, job, Good, latest, State, status, initial, Possible, Finished, finished, busy, next, Late, plant}
 use Rattle.sheet.specs.ModelTests.{possible, late, is-possible, is-late, is-busy, is-finished, tick-or, Held}
 
 abbrev pub same-state : State → State → Bool
@@ -105,10 +105,6 @@ pub record Fit (σ : Sheet) (q : State) : Type 0 where
   pub size : length (q .statuses) ≡ 8
   pub waiting : (i : ℕ) → Names σ i → status q i ≡ 0 → q .now ≤ job σ i .arrives
   pub since : (i : ℕ) → Names σ i → Here (status q i) → job σ i .arrives ≤ q .now
-
--- the latest due tick
-abbrev pub latest : Sheet → ℕ
-latest σ = greatest (length σ) (λ i. job σ i .arrives + job σ i .due)
 
 module _ (σ : Sheet) (few : length σ ≤ 8) where
   pub turns : (q : State) → Fit σ q → (e : Event) → Possible σ q e → (j : ℕ) → Names σ j → status (next σ q e) j ≡ turn e j (status q j)

@@ -1,110 +1,195 @@
--- The starred sheets of the scope paper, as one table of sheets and one test that computes. Assumes nothing.
-use Prim.Native.Nat.{ℕ, zero, suc, _+_, _*_, _≤_}
+-- The starred sheets of 01, "Sheets worked by hand", that speak of the definitions: one table under one claim, by one test that computes. Assumes nothing.
+use Prim.Native.Nat.{ℕ, zero, suc, _<_}
 use native.Mathlib.Omega.{arith}
-use mathlib.Core.Path.{_≡_, refl, ap}
-use mathlib.Core.Bool.{Bool, true, false, not, _&&_}
-use mathlib.Core.List.{List, [], _∷_, List·Memᴰ}
-use lib.ListN.{length}
+use mathlib.Core.Path.{_≡_, refl, subst}
+use mathlib.Core.Logic.{_↔_}
+use mathlib.Core.Bool.{Bool, true, not, _&&_}
+use mathlib.Core.List.{List, [], _∷_, map, List·Memᴰ, Memᴰ·of-map}
 use lib.Dec.{T, eqb, ltb}
 use Rattle.plant.specs.Plant.{Live, Row, Safe}
 use Rattle.plant.specs.Search.{T-and}
-use Rattle.plant.specs.Reflect.{Is, is-map, is-eq, is-and, is-and3, is-not}
-use Rattle.plant.specs.Lists.{all-of, all-each, Number, has, distinct}
+use Rattle.plant.specs.Reflect.{Is, is-map, is-eq, is-le, is-and3, is-not}
+use Rattle.plant.specs.Lists.{all-of, all-each, Number, has, is-has}
 use Rattle.plant.specs.SafeLaws.{prune}
-use Rattle.plant.specs.Explore.{explore, live-list, safe-list, pruned, among, not-late, whole, live-right, is-safe-list, rows-right, starts-from, code-from}
-use Rattle.sheet.specs.Model.{Job, Sheet, State, initial, plant}
+use Rattle.plant.specs.Mask.{mask}
+use Rattle.plant.specs.MarkLaws.{starts-by, code-by, starts-right, code-right}
+use Rattle.plant.specs.Explore.{explore, not-late, among, live-list, pruned, safe-list, rows-among, whole, counted, live-right, is-safe-list, rows-right}
+use Rattle.sheet.specs.Model.{Job, Sheet, Good, State, initial, digits-word, word, plant}
+use Rattle.sheet.specs.Table.{Entry, Ascending, Entry-of, Rows}
+use Rattle.sheet.specs.ModelTests.{good, is-good}
 use Rattle.sheet.specs.Obeys.{tests}
 
-pub record Mark : Type 0 where
-  pub row : ℕ
-  pub start-byte : ℕ
-  pub tick-code : ℕ
+-- The table ---------------------------------------------------------------------------------------------------------------
 
-abbrev pub statuses : List ℕ → ℕ
-statuses [] = 0
-statuses (s ∷ l) = s + 4 * statuses l
-
-abbrev pub word : State → ℕ
-word q = q .now * 16777216 + q .elapsed * 65536 + statuses (q .statuses)
-
--- in ascending order of word
-abbrev pub insert : Mark → List Mark → List Mark
-insert m [] = m ∷ []
-insert m (k ∷ l) = elim (ltb (m .row) (k .row)) [ true ↦ m ∷ k ∷ l | false ↦ k ∷ insert m l ]
-
-abbrev pub sorted : Sheet → List State → List State → List Mark
-sorted σ s [] = []
-sorted σ s (q ∷ l) = insert (record { row = word q; start-byte = starts-from (plant σ) (tests σ) (length σ) s q; tick-code = code-from (plant σ) (tests σ) s q }) (sorted σ s l)
-
-abbrev pub same-marks : List Mark → List Mark → Bool
-same-marks [] [] = true
-same-marks [] (y ∷ m) = false
-same-marks (x ∷ l) [] = false
-same-marks (x ∷ l) (y ∷ m) = (eqb (x .row) (y .row) && (eqb (x .start-byte) (y .start-byte) && eqb (x .tick-code) (y .tick-code))) && same-marks l m
-
+-- a sheet, how many live states it has, and its rows; none where it is impossible
 pub record Star : Type 0 where
   pub sheet : Sheet
   pub live : ℕ
-  pub marks : List Mark
+  pub rows : List Entry
 
--- refusal 5, where there is no row, or a table
-abbrev pub Verdict : Sheet → List Mark → Type 0
-Verdict σ [] = ¬ (Safe (plant σ) initial)
-Verdict σ (m ∷ l) = Number (Row (plant σ)) (suc (length l))
+abbrev j : ℕ → ℕ → ℕ → ℕ → Job
+j a b w d = record { arrives = a; fewest = b; most = w; due = d }
 
-rows-test : Sheet → List Mark → List State → Bool
-rows-test σ [] s = not (among (plant σ) (tests σ) s initial)
-rows-test σ (m ∷ l) s = whole (plant σ) (tests σ) (among (plant σ) (tests σ) s) (explore (plant σ) (tests σ) 5000 (among (plant σ) (tests σ) s) (initial ∷ []) []) (suc (length l))
-    && same-marks (sorted σ s (explore (plant σ) (tests σ) 5000 (among (plant σ) (tests σ) s) (initial ∷ []) [])) (m ∷ l)
+abbrev r : ℕ → ℕ → ℕ → Entry
+r w s t = record { word = w; starts = s; tick = t }
 
-live-test : Star → List State → Bool
-unfolding rows-test
-live-test x l = whole (plant (x .sheet)) (tests (x .sheet)) (not-late (plant (x .sheet)) (tests (x .sheet))) l (x .live) && rows-test (x .sheet) (x .marks) (pruned (plant (x .sheet)) (tests (x .sheet)) l)
-
-star-test : Star → Bool
-unfolding live-test
-star-test x = live-test x (live-list (plant (x .sheet)) (tests (x .sheet)) 5000)
-
-of : ℕ → ℕ → ℕ → ℕ → Job
-of a b w d = record { arrives = a; fewest = b; most = w; due = d }
-
-m : ℕ → ℕ → ℕ → Mark
-m w s t = record { row = w; start-byte = s; tick-code = t }
-
-pub stars : List Star
-unfolding of m
+unfoldable pub stars : List Star
 stars =
-    record { sheet = of 0 1 1 1 ∷ []; live = 7; marks = m 0 0 0 ∷ m 1 1 2 ∷ m 2 0 1 ∷ m 3 0 1 ∷ m 16842754 0 0 ∷ [] }
-    ∷ record { sheet = of 0 2 4 7 ∷ of 1 1 2 4 ∷ []; live = 82; marks = m 0 0 0 ∷ m 1 0 1 ∷ m 15 0 1 ∷ m 16777217 0 0 ∷ m 16777221 2 2 ∷ m 16777225 0 1 ∷ m 33554445 1 1 ∷ m 33554446 0 1 ∷ m 33619977 0 1 ∷ m 50331661 1 2 ∷ m 50331662 0 1 ∷ m 50397198 0 1 ∷ m 50462729 0 0 ∷ m 67174414 0 1 ∷ m 67239950 0 1 ∷ m 84017166 0 1 ∷ m 84082702 0 1 ∷ m 100859918 0 1 ∷ m 100925454 0 0 ∷ m 117702670 0 0 ∷ [] }
-    ∷ record { sheet = of 0 1 2 2 ∷ of 0 1 1 2 ∷ []; live = 30; marks = [] }
-    ∷ record { sheet = of 0 1 1 2 ∷ of 0 1 1 2 ∷ []; live = 29; marks = m 0 0 0 ∷ m 1 1 0 ∷ m 2 0 0 ∷ m 4 2 0 ∷ m 5 3 2 ∷ m 6 0 1 ∷ m 8 0 0 ∷ m 9 0 1 ∷ m 15 0 1 ∷ m 16777223 2 2 ∷ m 16777227 0 1 ∷ m 16777229 1 2 ∷ m 16777230 0 1 ∷ m 16842758 0 0 ∷ m 16842761 0 0 ∷ m 33619979 0 0 ∷ m 33619982 0 0 ∷ [] }
+    -- 1: S1, 5 rows, 7 live states
+    record { sheet = j 0 1 1 1 ∷ []; live = 7; rows = r 0 0 0 ∷ r 1 1 2 ∷ r 2 0 1 ∷ r 3 0 1 ∷ r 16842754 0 0 ∷ [] }
+    -- 3 to 7: S2, 20 rows; at word 1 only the tick, at 16777221 job 2 held, at 33554445 job 1 or the tick, at 50331661 job 1 held
+    ∷ record {
+      sheet = j 0 2 4 7 ∷ j 1 1 2 4 ∷ [];
+      live = 82;
+      rows =
+          r 0 0 0 ∷ r 1 0 1 ∷ r 15 0 1 ∷ r 16777217 0 0 ∷ r 16777221 2 2 ∷ r 16777225 0 1 ∷ r 33554445 1 1 ∷ r 33554446 0 1 ∷ r 33619977 0 1 ∷ r 50331661 1 2
+          ∷ r 50331662 0 1 ∷ r 50397198 0 1 ∷ r 50462729 0 0 ∷ r 67174414 0 1 ∷ r 67239950 0 1 ∷ r 84017166 0 1 ∷ r 84082702 0 1 ∷ r 100859918 0 1 ∷ r 100925454 0 0 ∷ r 117702670 0 0 ∷ [];
+    }
+    -- 8: impossible, though a lucky run meets both
+    ∷ record { sheet = j 0 1 2 2 ∷ j 0 1 1 2 ∷ []; live = 30; rows = [] }
+    -- 9: the same line twice, 17 rows
+    ∷ record {
+      sheet = j 0 1 1 2 ∷ j 0 1 1 2 ∷ [];
+      live = 29;
+      rows =
+          r 0 0 0 ∷ r 1 1 0 ∷ r 2 0 0 ∷ r 4 2 0 ∷ r 5 3 2 ∷ r 6 0 1 ∷ r 8 0 0 ∷ r 9 0 1 ∷ r 15 0 1 ∷ r 16777223 2 2
+          ∷ r 16777227 0 1 ∷ r 16777229 1 2 ∷ r 16777230 0 1 ∷ r 16842758 0 0 ∷ r 16842761 0 0 ∷ r 33619979 0 0 ∷ r 33619982 0 0 ∷ [];
+    }
     ∷ []
 
+-- The claim ---------------------------------------------------------------------------------------------------------------
+
+-- refusal 5 where there is no row, and else exactly these rows
+abbrev pub Verdict : Sheet → List Entry → Type 0
+Verdict σ [] = ¬ (Safe (plant σ) initial)
+Verdict σ (e ∷ l) = Rows σ (e ∷ l)
+
+pub record Claim (x : Star) : Type 0 where
+  pub good-form : Good (x .sheet)
+  pub live-states : Number (Live (plant (x .sheet))) (x .live)
+  pub verdict : Verdict (x .sheet) (x .rows)
+
+-- The test ----------------------------------------------------------------------------------------------------------------
+
+abbrev same-entry : Entry → Entry → Bool
+same-entry a b = eqb (a .word) (b .word) && (eqb (a .starts) (b .starts) && eqb (a .tick) (b .tick))
+
+is-same-entry : (a b : Entry) → Is (same-entry a b) (a ≡ b)
+is-same-entry a b = is-map (λ w. λ i. record { word = w .0 i; starts = w .1 i; tick = w .2 i })
+    (λ e. ((λ i. (e i) .word), (λ i. (e i) .starts), (λ i. (e i) .tick)))
+    (is-and3 (is-eq (a .word) (b .word)) (is-eq (a .starts) (b .starts)) (is-eq (a .tick) (b .tick)))
+
+abbrev ascends : List Entry → Bool
+ascends [] = true
+ascends (a ∷ []) = true
+ascends (a ∷ b ∷ l) = ltb (a .word) (b .word) && ascends (b ∷ l)
+
+ascends-right : (l : List Entry) → T (ascends l) → Ascending l
+ascends-right [] t = λ i h. absurd (omega arith)
+ascends-right (a ∷ []) t = λ i h. absurd (omega arith)
+ascends-right (a ∷ b ∷ l) t = let w = T-and (ltb (a .word) (b .word)) (ascends (b ∷ l)) t in go (is-le (suc (a .word)) (b .word) .holds (w .0)) (ascends-right (b ∷ l) (w .1))
+  where
+    go : a .word < b .word → Ascending (b ∷ l) → Ascending (a ∷ b ∷ l)
+    go h asc zero k = h
+    go h asc (suc i) k = asc i (omega arith)
+
+-- the row of a state, where `s` has the safe ones
+abbrev entry : Sheet → List State → State → Entry
+entry σ s q = record { word = word q; starts = starts-by (plant σ) (tests σ) (among (plant σ) (tests σ) s) q; tick = code-by (plant σ) (tests σ) (among (plant σ) (tests σ) s) q }
+
+abbrev rows-test : Sheet → List Entry → List State → List State → Bool
+rows-test σ l s qs = whole (plant σ) (tests σ) (among (plant σ) (tests σ) s) qs && ((all-of (λ q. has same-entry (entry σ s q) l) qs && all-of (λ e. has same-entry e (map (entry σ s) qs)) l) && ascends l)
+
+-- enough steps for the largest of them
+abbrev steps : ℕ
+steps = 5000
+
+abbrev verdict-test : Sheet → List Entry → List State → Bool
+verdict-test σ [] s = not (among (plant σ) (tests σ) s initial)
+verdict-test σ (e ∷ l) s = rows-test σ (e ∷ l) s (rows-among (plant σ) (tests σ) steps s)
+
+abbrev live-test : Star → List State → Bool
+live-test x l = whole (plant (x .sheet)) (tests (x .sheet)) (not-late (plant (x .sheet)) (tests (x .sheet))) l && (counted (plant (x .sheet)) (tests (x .sheet)) l (x .live) && verdict-test (x .sheet) (x .rows) (pruned (plant (x .sheet)) (tests (x .sheet)) l))
+
+unfoldable star-test : Star → Bool
+star-test x = good (x .sheet) && live-test x (live-list (plant (x .sheet)) (tests (x .sheet)) steps)
+
 tested : T (all-of star-test stars)
-unfolding star-test stars live-list explore prune
+unfolding star-test stars live-list explore prune mask digits-word
 tested = tt
 
--- the test is right
-pub record Claim (x : Star) : Type 0 where
-  pub live-states : Number (Live (plant (x .sheet))) (x .live)
-  pub verdict : Verdict (x .sheet) (x .marks)
+-- The test is right -------------------------------------------------------------------------------------------------------
+
+module _ (σ : Sheet) (k : T (whole (plant σ) (tests σ) (not-late (plant σ) (tests σ)) (live-list (plant σ) (tests σ) steps))) where
+  abbrev safes : List State
+  safes = safe-list (plant σ) (tests σ) steps
+
+  abbrev rows : List State
+  rows = rows-among (plant σ) (tests σ) steps safes
+
+  entry-right : (q : State) → Entry-of σ q (entry σ safes q)
+  entry-right q = record {
+    word = refl;
+    starts = starts-right (plant σ) (tests σ) (among (plant σ) (tests σ) safes) (is-safe-list (plant σ) (tests σ) steps k) q;
+    tick = code-right (plant σ) (tests σ) (among (plant σ) (tests σ) safes) (is-safe-list (plant σ) (tests σ) steps k) q;
+  }
+
+  rows-test-right : (l : List Entry) → T (rows-test σ l safes rows) → Rows σ l
+  rows-test-right l t = record {
+    ascending = ascends-right l (parts .2);
+    each = λ e m. each e (Memᴰ·of-map (entry σ safes) rows (is-has same-entry is-same-entry e (map (entry σ safes) rows) .holds (all-each (λ e. has same-entry e (map (entry σ safes) rows)) l (both .1) e m)));
+    every = λ q v. (entry σ safes q, is-has same-entry is-same-entry (entry σ safes q) l .holds (all-each (λ q. has same-entry (entry σ safes q) l) rows (both .0) q (met q .0 v)), entry-right q);
+  }
+    where
+      first : Bool
+      first = whole (plant σ) (tests σ) (among (plant σ) (tests σ) safes) rows
+
+      there : Bool
+      there = all-of (λ q. has same-entry (entry σ safes q) l) rows
+
+      back : Bool
+      back = all-of (λ e. has same-entry e (map (entry σ safes) rows)) l
+
+      two : T first × T ((there && back) && ascends l)
+      two = T-and first ((there && back) && ascends l) t
+
+      rest : T (there && back) × T (ascends l)
+      rest = T-and (there && back) (ascends l) (two .1)
+
+      parts : T first × T (there && back) × T (ascends l)
+      parts = (two .0, rest .0, rest .1)
+
+      both : T there × T back
+      both = T-and there back (parts .1)
+
+      met : (q : State) → Row (plant σ) q ↔ List·Memᴰ q rows
+      met = rows-right (plant σ) (tests σ) steps k (parts .0)
+
+      each : (e : Entry) → (q : State) × List·Memᴰ q rows × (entry σ safes q ≡ e) → (q : State) × Row (plant σ) q × Entry-of σ q e
+      each e w = (w .0, met (w .0) .1 (w .1), subst (Entry-of σ (w .0)) (w .2) (entry-right (w .0)))
+
+  verdict-right : (l : List Entry) → T (verdict-test σ l safes) → Verdict σ l
+  verdict-right [] t = is-not (is-safe-list (plant σ) (tests σ) steps k initial) .holds t
+  verdict-right (e ∷ l) t = rows-test-right (e ∷ l) t
 
 star-right : (x : Star) → T (star-test x) → Claim x
 unfolding star-test safe-list
-star-right x k = record { live-states = live-right (plant σ) (tests σ) 5000 (x .live) first; verdict = by (x .marks) (T-and live (rows-test σ (x .marks) (safe-list (plant σ) (tests σ) 5000)) k .1) }
+star-right x t = record { good-form = is-good σ .holds (outer .0); live-states = live-right (plant σ) (tests σ) steps (inner .0) (x .live) (rest .0); verdict = verdict-right σ (inner .0) (x .rows) (rest .1) }
   where
     σ : Sheet
     σ = x .sheet
 
-    live : Bool
-    live = whole (plant σ) (tests σ) (not-late (plant σ) (tests σ)) (live-list (plant σ) (tests σ) 5000) (x .live)
+    lives : List State
+    lives = live-list (plant σ) (tests σ) steps
 
-    first : T live
-    first = T-and live (rows-test σ (x .marks) (safe-list (plant σ) (tests σ) 5000)) k .0
+    outer : T (good σ) × T (live-test x lives)
+    outer = T-and (good σ) (live-test x lives) t
 
-    by : (ms : List Mark) → T (rows-test σ ms (safe-list (plant σ) (tests σ) 5000)) → Verdict σ ms
-    by [] r = is-not (is-safe-list (plant σ) (tests σ) 5000 (x .live) first initial) .holds r
-    by (y ∷ ms) r = rows-right (plant σ) (tests σ) 5000 (x .live) first (suc (length ms)) (T-and (whole (plant σ) (tests σ) (among (plant σ) (tests σ) (safe-list (plant σ) (tests σ) 5000)) (explore (plant σ) (tests σ) 5000 (among (plant σ) (tests σ) (safe-list (plant σ) (tests σ) 5000)) (initial ∷ []) []) (suc (length ms))) (same-marks (sorted σ (safe-list (plant σ) (tests σ) 5000) (explore (plant σ) (tests σ) 5000 (among (plant σ) (tests σ) (safe-list (plant σ) (tests σ) 5000)) (initial ∷ []) [])) (y ∷ ms)) r .0)
+    inner : T (whole (plant σ) (tests σ) (not-late (plant σ) (tests σ)) lives) × T (counted (plant σ) (tests σ) lives (x .live) && verdict-test σ (x .rows) (safe-list (plant σ) (tests σ) steps))
+    inner = T-and (whole (plant σ) (tests σ) (not-late (plant σ) (tests σ)) lives) (counted (plant σ) (tests σ) lives (x .live) && verdict-test σ (x .rows) (safe-list (plant σ) (tests σ) steps)) (outer .1)
+
+    rest : T (counted (plant σ) (tests σ) lives (x .live)) × T (verdict-test σ (x .rows) (safe-list (plant σ) (tests σ) steps))
+    rest = T-and (counted (plant σ) (tests σ) lives (x .live)) (verdict-test σ (x .rows) (safe-list (plant σ) (tests σ) steps)) (inner .1)
 
 pub starred : (x : Star) → List·Memᴰ x stars → Claim x
-starred x k = star-right x (all-each star-test stars tested x k)
+starred x m = star-right x (all-each star-test stars tested x m)
