@@ -1,0 +1,2 @@
+// A state, an event and a byte of starts as numbers: events of bytes, bits of jobs, and a state by value with its word.
+pub mod event;
