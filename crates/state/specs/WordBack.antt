@@ -2,7 +2,7 @@
 use Prim.Native.Nat.{ℕ, zero, suc, _+_, _*_, _/_, _%_, _^_, _<_, _≤_}
 use native.Mathlib.Nat.{one-le-pow, pow-succ', pow-suc, mul-assoc, div-div-eq-div-mul}
 use native.Mathlib.Omega.{arith}
-use mathlib.Core.Path.{_≡_, refl, ap}
+use mathlib.Core.Path.{_≡_, refl, sym, ap, subst}
 use mathlib.Core.List.{List, [], _∷_}
 use lib.Arith.{mod-mul}
 use lib.Dec.{lit<, lit≤}
@@ -20,7 +20,7 @@ digit-at (suc n) w zero h = omega arith
 digit-at (suc n) w (suc j) h = rw (pow-succ' 4 j, ← div-div-eq-div-mul w 4 (4 ^ j)) (digit-at n (w / 4) j (omega arith))
 
 -- digits are statuses
-pub digits-known : (n w : ℕ) → Known (digits n w)
+digits-known : (n w : ℕ) → Known (digits n w)
 unfolding digits
 digits-known zero w j = lit≤ tt
 digits-known (suc n) w zero = omega arith
@@ -76,6 +76,10 @@ state-back q n e l k =
     let s : word q ≡ (q .now * 256 + q .elapsed) * 4 ^ 8 + digits-word (q .statuses) = omega arith in
     let d : digits 8 (word q) ≡ q .statuses = rw (s, digits-low 8 (q .now * 256 + q .elapsed) (digits-word (q .statuses))) (rw l at (digits-back (q .statuses) k)) in
     λ i. record { now = a i; elapsed = b i; statuses = d i }
+
+-- a state by value that stands for the state of a word has known statuses
+pub state-known : (s : by-value.State) (w : ℕ) → model s ≡ state-of w → Known (s .statuses)
+state-known s w e = subst Known (sym (ap (λ (q : State). q .statuses) e)) (digits-known 8 w)
 
 -- two states by value that stand for the same state are equal
 pub model-one : (s t : by-value.State) → model s ≡ model t → s ≡ t
