@@ -1,0 +1,3 @@
+// A sheet and its states by value: what is possible in a state, what an event leads to, and the same on state words.
+pub mod jobs;
+pub mod word;
