@@ -2,7 +2,13 @@
 -- A reader believes these:
 pub mod Clocks
 pub mod Lowest
+pub mod Mask
+pub mod Look
 -- What follows:
+pub mod Seen
 pub mod Tell
+pub mod ClockLaws
 pub mod SheetLaws
 pub mod LowestLaws
+pub mod MaskLaws
+pub mod SeenRight
