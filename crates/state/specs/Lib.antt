@@ -12,3 +12,5 @@ pub mod SheetLaws
 pub mod LowestLaws
 pub mod MaskLaws
 pub mod SeenRight
+pub mod LateLaws
+pub mod FinishedLaws
