@@ -1,7 +1,8 @@
--- What a state by value stands for: a state of the rules (01, "States and events"), its clocks read as numbers.
-use Prim.Native.Nat.{ℕ, _≤_}
-use mathlib.Core.List.{List}
-use lib.ListN.{getD}
+-- What the code's structs and arrays stand for in the rules: a state, a job, a sheet.
+use Prim.Native.Nat.{ℕ, _+_, _≤_}
+use mathlib.Core.List.{List, [], _∷_, map}
+use lib.ListN.{getD, take}
+use Rattle.sheet.specs.Model.{Job, Sheet}
 use Rattle.sheet.specs.Model as rules
 use Rattle.state.specs.declared.word.State.{State}
 
@@ -9,6 +10,22 @@ use Rattle.state.specs.declared.word.State.{State}
 abbrev pub Known : List ℕ → Type 0
 Known l = (k : ℕ) → getD l k 0 ≤ 3
 
--- "the tick now, the elapsed ticks of the running job .. and the eight statuses"
+-- "the tick now, the elapsed ticks of the running job (0 where none runs) and the eight statuses"
 abbrev pub model : State → rules.State
 model s = record { now = s .now; elapsed = s .elapsed .0; statuses = s .statuses }
+
+-- "four numbers each .. arrival tick A, fewest ticks B, most ticks W, due ticks D"
+abbrev pub job-of : List ℕ → Job
+job-of l = record { arrives = getD l 0 0; fewest = getD l 1 0; most = getD l 2 0; due = getD l 3 0 }
+
+-- the first `n` of the eight arrays are the sheet
+abbrev pub sheet-of : List (List ℕ) → ℕ → Sheet
+sheet-of jobs n = map job-of (take n jobs)
+
+-- the four numbers from place `i` on, 0 past the end
+abbrev pub four : List ℕ → ℕ → List ℕ
+four l i = getD l i 0 ∷ getD l (i + 1) 0 ∷ getD l (i + 2) 0 ∷ getD l (i + 3) 0 ∷ []
+
+-- "1 to 8 jobs of four numbers each, lent as unsigned 16-bit numbers, job after job", zeros past the last
+unfoldable pub arrays : List ℕ → List (List ℕ)
+arrays l = four l 0 ∷ four l 4 ∷ four l 8 ∷ four l 12 ∷ four l 16 ∷ four l 20 ∷ four l 24 ∷ four l 28 ∷ []

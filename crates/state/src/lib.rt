@@ -1,4 +1,7 @@
-// A state, an event and a byte of starts as numbers: events of bytes, bits of jobs, and a state by value with its word.
+// A sheet, its states and its events by value: events of bytes, bits of jobs, a state and its word, what is possible in a state.
 pub mod bits;
+mod clock;
 pub mod event;
+pub mod jobs;
+pub mod look;
 pub mod word;
