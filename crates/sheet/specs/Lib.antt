@@ -8,6 +8,7 @@ pub mod WordLaws
 pub mod ModelTests
 pub mod Obeys
 pub mod OrderLaws
+pub mod LateLaws
 pub mod RowsLaws
 pub mod Demand3
 pub mod Sentences
