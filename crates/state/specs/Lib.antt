@@ -4,6 +4,7 @@ pub mod Clocks
 pub mod Lowest
 pub mod Mask
 pub mod Look
+pub mod WordSteps
 -- What follows:
 pub mod Seen
 pub mod Tell
@@ -13,4 +14,5 @@ pub mod LowestLaws
 pub mod MaskLaws
 pub mod SeenRight
 pub mod LateLaws
-pub mod FinishedLaws
+pub mod StatusLaws
+pub mod ShiftLaws
