@@ -6,6 +6,7 @@ pub mod Clocks
 pub mod Lowest
 pub mod Mask
 pub mod Look
+pub mod WordSteps
 -- What follows:
 pub mod EventLaws
 pub mod BitLaws
@@ -18,4 +19,5 @@ pub mod LowestLaws
 pub mod MaskLaws
 pub mod SeenRight
 pub mod LateLaws
-pub mod FinishedLaws
+pub mod StatusLaws
+pub mod ShiftLaws
