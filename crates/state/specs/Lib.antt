@@ -8,7 +8,6 @@ pub mod WordSteps
 -- What follows:
 pub mod Seen
 pub mod Tell
-pub mod ClockLaws
 pub mod SheetLaws
 pub mod LowestLaws
 pub mod MaskLaws
@@ -16,3 +15,4 @@ pub mod SeenRight
 pub mod LateLaws
 pub mod StatusLaws
 pub mod ShiftLaws
+pub mod WordStepsRight
