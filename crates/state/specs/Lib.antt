@@ -13,7 +13,6 @@ pub mod BitLaws
 pub mod WordBack
 pub mod Seen
 pub mod Tell
-pub mod ClockLaws
 pub mod SheetLaws
 pub mod LowestLaws
 pub mod MaskLaws
@@ -21,3 +20,4 @@ pub mod SeenRight
 pub mod LateLaws
 pub mod StatusLaws
 pub mod ShiftLaws
+pub mod WordStepsRight

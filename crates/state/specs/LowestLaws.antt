@@ -2,15 +2,15 @@
 use Prim.Native.Nat.{ℕ, zero, suc, _+_, _-_, _≤_, _<_}
 use native.Mathlib.Omega.{arith}
 use native.Mathlib.Decide.{ℕ-discrete, decLt}
-use mathlib.Core.Path.{_≡_, sym, ap, subst}
+use mathlib.Core.Path.{_≡_, sym, subst}
 use mathlib.Core.Logic.{_↔_}
-use mathlib.Core.Bool.{Bool, true, false, not, cond}
+use mathlib.Core.Bool.{Bool, true, false, cond}
 use mathlib.Core.List.{List, []}
 use lib.ListN.{length, getD}
 use lib.Dec.{eqb, eqb·suc-zero}
 use Rattle.plant.specs.Search.{In}
 use Rattle.plant.specs.Reflect.{Is, is-map, is-le, is-and, is-and3, is-not, is-dec, stable}
-use Rattle.sheet.specs.Model.{Job, Sheet, Names, job, Good-job, Good}
+use Rattle.sheet.specs.Model.{Job, Sheet, job, Good-job, Good}
 use Rattle.state.specs.Clocks.{job-of, sheet-of}
 use Rattle.state.specs.Lowest.{lowest, good, lowest-bad}
 use Rattle.state.specs.SheetLaws.{length-sheet, job-suc}

@@ -1,6 +1,6 @@
 // The sheet: eight jobs of four numbers, of which the first n are there.
 ghost use mathlib.Core.Path.{_≡_};
-ghost use Prim.Native.Nat.{_<_, _≤_, _+_};
+ghost use Prim.Native.Nat.{_<_, _≤_};
 ghost use lib.ListN.{getD};
 ghost use Rattle.plant.specs.Reflect.{Is};
 ghost use Rattle.sheet.specs.Model.{Good-job};

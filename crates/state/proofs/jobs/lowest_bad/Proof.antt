@@ -1,15 +1,15 @@
 -- The first job that the test refuses is the lowest bad one: all before it were good. Assumes nothing.
-use Rattle.state.specs.LowestLaws.{bad-at, none-bad}
-use Rattle.state.specs.Tell.{told-yes, told-no}
-use Rattle.state.specs.Clocks.{job-of}
-use Rattle.sheet.specs.Model.{Good-job}
+use Prim.Native.Nat.{ℕ, _-_, _≤_, _<_}
+use mathlib.Core.List.{[]}
+use native.Mathlib.Omega.{arith}
+use lib.ListN.{getD}
 use borrow.Author.Count.{below-more}
 use borrow.Author.Tests.{not-true, not-false}
 use borrow.Author.Needs.{needs}
-use lib.ListN.{getD}
-use native.Mathlib.Omega.{arith}
-use mathlib.Core.List.{[]}
-use Prim.Native.Nat.{ℕ, _-_, _≤_, _<_}
+use Rattle.sheet.specs.Model.{Good-job}
+use Rattle.state.specs.LowestLaws.{bad-at, none-bad}
+use Rattle.state.specs.Tell.{told-yes, told-no}
+use Rattle.state.specs.Clocks.{job-of}
 use Rattle.state.proofs.jobs.lowest_bad.Statement.{statement}
 use Rattle.state.proofs.jobs.lowest_bad.Tie as tie
 

@@ -1,6 +1,6 @@
 -- The number at a place of a slice, 0 past its end. Assumes nothing.
-use lib.ListN.{List·getD-eq-default}
 use mathlib.Core.Path.{sym}
+use lib.ListN.{List·getD-eq-default}
 use borrow.Author.Needs.{needs}
 use Rattle.state.proofs.jobs.number.Statement.{statement}
 use Rattle.state.proofs.jobs.number.Tie as tie
