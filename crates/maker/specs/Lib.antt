@@ -5,3 +5,5 @@ pub mod FollowsLaws
 pub mod RaisedLaws
 pub mod Marking
 pub mod MarkingLaws
+pub mod MarkedLaws
+pub mod LeadsLaws

@@ -1,15 +1,15 @@
 -- The byte of the jobs that pass a test, computed; its bits, and that a byte is told by its bits. Assumes nothing.
 use Prim.Native.Nat.{ℕ, zero, suc, _+_, _-_, _/_, _%_, _^_, _≤_, _<_}
 use native.Mathlib.Omega.{arith}
-use native.Mathlib.Nat.{two-pow-succ, mod-lt, one-mul, zero-mul}
+use native.Mathlib.Nat.{two-pow-succ, mod-lt, one-mul, zero-mul, zero-div}
 use native.Mathlib.Numerals.{one-add}
 use native.Mathlib.Decide.{ℕ-discrete}
 use mathlib.Core.Path.{_≡_, refl, sym, ap, subst, _∙_}
-use mathlib.Core.Logic.{_↔_}
+use mathlib.Core.Logic.{_≢_, _⊎_, inl, inr, _↔_}
 use mathlib.Core.Bool.{Bool, true, false, cond}
 use lib.Dec.{lit<}
 use lib.Pow.{pow-pos, split, high, low, field, mod-mod-pow, shr-mod}
-use Rattle.plant.specs.Search.{In}
+use Rattle.plant.specs.Search.{In, find}
 use Rattle.plant.specs.Reflect.{Is}
 use Rattle.plant.specs.Marks.{Has, Byte}
 
@@ -101,3 +101,20 @@ byte-one P a b x y = same-bits 8 a b (x .fits) (y .fits) bits
         go m n (yes e) d u v = e ∙ sym (u e)
         go m n (no x) (yes e) u v = absurd (x (v e))
         go m n (no x) (no y) u v = omega arith
+
+-- a byte that is not 0 has a job
+pub byte-some : (b : ℕ) → b < 256 → b ≢ 0 → (k : ℕ) × In 8 k × Has b k
+byte-some b h n = go (find 8 (Has b) (λ k. ℕ-discrete (b / 2 ^ (k - 1) % 2) 1))
+  where
+    none : (j : ℕ) → zero / 2 ^ j % 2 ≡ 0
+    none j = let z : zero / 2 ^ j ≡ zero = zero-div (2 ^ j) in omega arith
+
+    clear : ((k : ℕ) → In 8 k → ¬ (Has b k)) → (j : ℕ) → j < 8 → b / 2 ^ j % 2 ≡ zero / 2 ^ j % 2
+    clear f j l =
+        let e : suc j - 1 ≡ j = omega arith in
+        let x : ¬ (b / 2 ^ j % 2 ≡ 1) = rw e at (f (suc j) (omega arith)) in
+        omega (arith, none j)
+
+    go : ((k : ℕ) × In 8 k × Has b k) ⊎ ((k : ℕ) → In 8 k → ¬ (Has b k)) → (k : ℕ) × In 8 k × Has b k
+    go (inl w) = w
+    go (inr f) = absurd (n (same-bits 8 b 0 h (lit< tt) (clear f)))
