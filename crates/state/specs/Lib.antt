@@ -18,6 +18,7 @@ pub mod LowestLaws
 pub mod MaskLaws
 pub mod SeenRight
 pub mod LateLaws
+pub mod LookLaws
 pub mod StatusLaws
 pub mod ShiftLaws
 pub mod WordStepsRight
