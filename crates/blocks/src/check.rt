@@ -1,0 +1,24 @@
+// The check of a block.
+ghost use mathlib.Core.Path.{_≡_};
+ghost use Prim.Native.Nat.{_≤_};
+ghost use lib.ListN.{length, take};
+ghost use Rattle.blocks.specs.Sizes.{block-bytes, body-bytes, most-check};
+ghost use Rattle.blocks.specs.Bytes.{check-of};
+use crate::numbers;
+use crate::sizes::BODY;
+
+// The check of a block: 1 plus the sum of (p + 1) × byte over the bytes before it. At each turn the sum is that of the bytes passed.
+pub fn check_of(block: &[u8]) -> u32
+    requires { ⌜ length (now block) ≡ block-bytes ⌝ }
+    ensures { λ r. ⌜ (r ≡ check-of (take body-bytes (now (block .entry)))) × (r ≤ most-check) ⌝ }
+{
+    let mut sum: u32 = 1;
+    let mut p: usize = 0;
+    let mut weight: u32 = 1;
+    while p < BODY {
+        sum += weight * numbers::wide32(block[p]);
+        p += 1;
+        weight += 1;
+    }
+    sum
+}
