@@ -7,3 +7,5 @@ pub mod Marking
 pub mod MarkingLaws
 pub mod MarkedLaws
 pub mod LeadsLaws
+pub mod TouchedLaws
+pub mod PushedLaws
