@@ -9,3 +9,4 @@ pub mod MarkedLaws
 pub mod LeadsLaws
 pub mod TouchedLaws
 pub mod PushedLaws
+pub mod TellLaws
