@@ -10,3 +10,5 @@ pub mod LeadsLaws
 pub mod TouchedLaws
 pub mod PushedLaws
 pub mod TellLaws
+pub mod Gathering
+pub mod GatheringLaws
