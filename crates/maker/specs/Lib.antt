@@ -12,3 +12,5 @@ pub mod PushedLaws
 pub mod TellLaws
 pub mod Gathering
 pub mod GatheringLaws
+pub mod Making
+pub mod MakingLaws
