@@ -33,7 +33,7 @@ loop-again c =
     let a = c .before .before .before .before .before .before .before in
     let o = c .before .before .before .before .before .loop in
     let k = c .before .before .keep-row in
-    (omega arith, gather-more (a .args .work .now) (o .work) (k .last .0) (a .args .n) (o .i) (o .m) (k .result) (a .pre .0) (a .pre .1) (omega arith) (o .inv .1) (k .ensures .0) (k .ensures .1))
+    (omega arith, gather-more (a .args .work .now) (o .work) (a .args .n) (o .i) (o .m) (a .pre .0) (a .pre .1) (omega arith) (o .inv .1) (k .last .0) (k .result) (k .ensures .0) (k .ensures .1))
 
 same-length : tie.Need-same-length Inv-loop μ-loop
 same-length c = c .before .loop .inv .1 .so-far .len
