@@ -1,10 +1,20 @@
-//! The tests of Smirrado. `self` holds the second program to the sheets worked by hand.
+//! The tests of Smirrado.
+//!
+//! `self` holds the second program to the sheets worked by hand, to counts at the limits and to
+//! files whose form was settled by hand. `compare` holds every call of the product to the second
+//! program; it is there when the product's library is linked.
 
 mod clauses;
+#[cfg(linked)]
+mod compare;
 mod damage;
 mod foreign;
 mod forms;
 mod found;
+#[cfg(linked)]
+mod guarded;
+#[cfg(linked)]
+mod library;
 mod limits;
 mod random;
 mod replies;
@@ -16,22 +26,47 @@ mod worked;
 use std::env;
 use std::process::ExitCode;
 
+const USAGE: &str = "usage: tests self | tests compare [--seed N] [--cases N]";
+
 fn main() -> ExitCode {
     let arguments: Vec<String> = env::args().skip(1).collect();
-    match arguments.first().map(String::as_str) {
-        Some("self") => {
-            worked::run();
-            limits::run();
-            forms::run();
-        }
-        _ => {
-            eprintln!("usage: tests self");
-            return ExitCode::from(2);
-        }
+    let words: Vec<&str> = arguments.iter().map(String::as_str).collect();
+    match words.first() {
+        Some(&"self") if words.len() == 1 => own_tests(),
+        #[cfg(linked)]
+        Some(&"compare") => match seed_and_cases(&words[1..]) {
+            Some((seed, cases)) => compare::run(seed, cases),
+            None => return usage(),
+        },
+        _ => return usage(),
     }
     if tally::close() {
         ExitCode::SUCCESS
     } else {
         ExitCode::FAILURE
     }
+}
+
+fn usage() -> ExitCode {
+    eprintln!("{}", USAGE);
+    ExitCode::from(2)
+}
+
+fn own_tests() {
+    worked::run();
+    limits::run();
+    forms::run();
+}
+
+#[cfg(linked)]
+fn seed_and_cases(words: &[&str]) -> Option<(u64, usize)> {
+    let (mut seed, mut cases) = (1, 100);
+    for pair in words.chunks(2) {
+        match pair {
+            ["--seed", number] => seed = number.parse().ok()?,
+            ["--cases", number] => cases = number.parse().ok()?,
+            _ => return None,
+        }
+    }
+    Some((seed, cases))
 }
