@@ -129,7 +129,8 @@ fn check_broken(file: &[u8], block: usize) -> Vec<Damaged> {
         ("check 0".to_string(), 0),
         ("check with its bytes turned".to_string(), right.swap_bytes()),
     ];
-    wrong.extend((0..32).map(|bit| (format!("check with bit {} changed", bit), right ^ (1 << bit))));
+    wrong
+        .extend((0..32).map(|bit| (format!("check with bit {} changed", bit), right ^ (1 << bit))));
     wrong.retain(|wrong| wrong.1 != right);
     let put = |(rule, value): (String, u32)| {
         let mut copy = file.to_vec();
@@ -213,7 +214,8 @@ fn blocks_swapped(file: &[u8], block: usize) -> Vec<Damaged> {
         block_mut(&mut numbered, number)[4..6].copy_from_slice(&(number as u16).to_le_bytes());
         seal(block_mut(&mut numbered, number));
     }
-    let name = |how: &str| format!("block {}: swapped with the block before, numbers {}", block, how);
+    let name =
+        |how: &str| format!("block {}: swapped with the block before, numbers {}", block, how);
     // The last block may be short, and block 1 must begin with word 0: then the earlier is bad.
     let earlier_bad = block == 2 || usize::from(file[block * BLOCK_BYTES + 3]) < SLOTS;
     let lowest = if earlier_bad { block - 1 } else { block };

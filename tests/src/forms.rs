@@ -22,6 +22,7 @@ pub fn run() {
     test("made tables are read back", read_back());
     test("foreign tables are read back, 7,874 rows at most", foreign_files());
     test("every changed bit is found", bits());
+    test("any bytes are answered with a block that is there", any_bytes());
 }
 
 fn form_of(file: &[u8]) -> Wanted {
@@ -89,4 +90,18 @@ fn bits() -> Outcome {
     let file = write(&table.sheet, &table.rows);
     let mut random = Random::new(7);
     (0..500).try_for_each(|_| as_wanted(&damage::bit_flipped(&file, false, &mut random)))
+}
+
+fn any_bytes() -> Outcome {
+    let mut random = Random::new(8);
+    let mut files: Vec<Damaged> = (0..200).map(|_| damage::random_bytes(&mut random)).collect();
+    let one = foreign::table(&foreign::wide_sheet(), 3 * SLOTS, &mut random);
+    let other = foreign::table(&foreign::wide_sheet(), 3 * SLOTS, &mut random);
+    files.extend(damage::mixed(&write(&one.sheet, &one.rows), &write(&other.sheet, &other.rows)));
+    for damaged in &files {
+        if let Wanted::LowestBad(block) = form_of(&damaged.file) {
+            same(&damaged.rule, block < damage::blocks_of(&damaged.file), true)?;
+        }
+    }
+    Ok(())
 }

@@ -107,12 +107,7 @@ pub const MOST_LIVE: [Found; 10] = [
 
 /// Row counts at the edges of blocks.
 pub const BLOCK_EDGES: [Found; 7] = [
-    Found {
-        what: "62 rows, 2 blocks",
-        jobs: &[[1, 1, 1, 11], [5, 1, 3, 4]],
-        live: 89,
-        rows: 62,
-    },
+    Found { what: "62 rows, 2 blocks", jobs: &[[1, 1, 1, 11], [5, 1, 3, 4]], live: 89, rows: 62 },
     Found { what: "63 rows, 3 blocks", jobs: &[[7, 4, 4, 12]], live: 77, rows: 63 },
     Found {
         what: "124 rows, 3 blocks",

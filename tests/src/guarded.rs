@@ -17,8 +17,14 @@ const SIGSEGV: i32 = 11;
 const SIGBUS: i32 = 7;
 
 extern "C" {
-    fn mmap(at: *mut c_void, bytes: usize, prot: i32, flags: i32, fd: i32, offset: i64)
-        -> *mut c_void;
+    fn mmap(
+        at: *mut c_void,
+        bytes: usize,
+        prot: i32,
+        flags: i32,
+        fd: i32,
+        offset: i64,
+    ) -> *mut c_void;
     fn mprotect(at: *mut c_void, bytes: usize, prot: i32) -> i32;
     fn munmap(at: *mut c_void, bytes: usize) -> i32;
     fn signal(number: i32, handler: extern "C" fn(i32)) -> usize;
@@ -105,7 +111,9 @@ impl<T: Copy> Lent<T> {
         let first = self.items as usize - self.pages as usize;
         let end = first + self.count * size_of::<T>();
         // SAFETY: these bytes lie in our pages, which can be read.
-        (0..first).chain(end..self.pages_bytes).all(|at| unsafe { *self.pages.add(at) } == pattern(at))
+        (0..first)
+            .chain(end..self.pages_bytes)
+            .all(|at| unsafe { *self.pages.add(at) } == pattern(at))
     }
 }
 

@@ -1,12 +1,15 @@
 //! The second program against the sheets at the limits and the sheets of bad form.
 
 use crate::found::{self, Found};
+use crate::random::Random;
 use crate::replies::MakeReply;
-use crate::second::calls::{file_bytes, make, MANY_LIVE, NOT_SAFE, WORK_WORDS};
+use crate::second::calls::{file_bytes, make, table_of, MANY_LIVE, NOT_SAFE, WORK_WORDS};
+use crate::second::file::write;
 use crate::second::sheet::Sheet;
 use crate::second::table::{Live, MOST_LIVE};
 use crate::sheets;
 use crate::tally::{same, test, Outcome};
+use crate::tuned;
 
 pub fn run() {
     for sheet in found::all() {
@@ -17,6 +20,7 @@ pub fn run() {
         test(&format!("{}, one tick later", sheet.what), one_more(sheet));
     }
     test("sheets of bad length and of bad form", bad_sheets());
+    test("the tuned maker writes the same files", tuned_files());
 }
 
 /// The counts, looked for past the limit too, and make's reply.
@@ -50,6 +54,24 @@ fn bad_sheets() -> Outcome {
         let wanted = MakeReply { number: sheet.number, detail: sheet.detail, length: 0 };
         same(&sheet.what, reply, wanted)?;
         same("a work word", work.iter().find(|&&word| word != 1), None)?;
+    }
+    Ok(())
+}
+
+/// So that what is measured against is a maker too.
+fn tuned_files() -> Outcome {
+    let mut random = Random::new(9);
+    let mut sheets: Vec<Vec<u16>> = found::all().iter().map(|sheet| sheet.numbers()).collect();
+    sheets.extend(found::MOST_LIVE.iter().map(Found::one_tick_later));
+    for kind in sheets::KINDS {
+        sheets.extend((0..10).map(|_| sheets::of_kind(kind, &mut random)));
+    }
+    for numbers in sheets {
+        let sheet = Sheet::of_numbers(&numbers).ok_or("of bad length")?;
+        let file = table_of(&numbers).ok().map(|table| write(&table.sheet, &table.rows));
+        if tuned::make(&sheet) != file {
+            return Err(format!("another file for {:?}", numbers));
+        }
     }
     Ok(())
 }

@@ -2,8 +2,10 @@
 //!
 //! `self` holds the second program to the sheets worked by hand, to counts at the limits and to
 //! files whose form was settled by hand. `compare` holds every call of the product to the second
-//! program; it is there when the product's library is linked.
+//! program; it is there when the product's library is linked. `text` does the same for the
+//! printing program, named by its path. `bench` measures.
 
+mod bench;
 mod clauses;
 #[cfg(linked)]
 mod compare;
@@ -17,27 +19,41 @@ mod guarded;
 mod library;
 mod limits;
 mod random;
+mod refusals;
 mod replies;
 mod second;
 mod sheets;
 mod tally;
+mod texts;
+mod tuned;
 mod worked;
 
 use std::env;
 use std::process::ExitCode;
 
-const USAGE: &str = "usage: tests self | tests compare [--seed N] [--cases N]";
+const USAGE: &str = "usage: tests self
+       tests compare [--seed N] [--cases N]
+       tests text PROGRAM [--seed N] [--cases N]
+       tests bench";
 
 fn main() -> ExitCode {
     let arguments: Vec<String> = env::args().skip(1).collect();
     let words: Vec<&str> = arguments.iter().map(String::as_str).collect();
-    match words.first() {
-        Some(&"self") if words.len() == 1 => own_tests(),
+    match words.split_first() {
+        Some((&"self", [])) => own_tests(),
         #[cfg(linked)]
-        Some(&"compare") => match seed_and_cases(&words[1..]) {
+        Some((&"compare", rest)) => match seed_and_cases(rest) {
             Some((seed, cases)) => compare::run(seed, cases),
             None => return usage(),
         },
+        Some((&"text", [program, rest @ ..])) => match seed_and_cases(rest) {
+            Some((seed, cases)) => texts::run(program, seed, cases),
+            None => return usage(),
+        },
+        Some((&"bench", [])) => {
+            bench::run();
+            return ExitCode::SUCCESS;
+        }
         _ => return usage(),
     }
     if tally::close() {
@@ -54,11 +70,11 @@ fn usage() -> ExitCode {
 
 fn own_tests() {
     worked::run();
+    refusals::run();
     limits::run();
     forms::run();
 }
 
-#[cfg(linked)]
 fn seed_and_cases(words: &[&str]) -> Option<(u64, usize)> {
     let (mut seed, mut cases) = (1, 100);
     for pair in words.chunks(2) {

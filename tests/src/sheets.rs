@@ -6,6 +6,7 @@ use crate::random::Random;
 pub enum Kind {
     FewJobs,
     ManyJobs,
+    Crowded,
     Tight,
     Loose,
     SameArrival,
@@ -14,9 +15,10 @@ pub enum Kind {
     Anything,
 }
 
-pub const KINDS: [Kind; 8] = [
+pub const KINDS: [Kind; 9] = [
     Kind::FewJobs,
     Kind::ManyJobs,
+    Kind::Crowded,
     Kind::Tight,
     Kind::Loose,
     Kind::SameArrival,
@@ -36,11 +38,12 @@ struct Draw {
 fn draw_of(kind: Kind) -> Draw {
     match kind {
         Kind::FewJobs => Draw { jobs: (1, 2), last_arrival: 30, most: 15, spare: 30 },
-        Kind::ManyJobs => Draw { jobs: (5, 8), last_arrival: 25, most: 2, spare: 16 },
-        Kind::Tight => Draw { jobs: (2, 5), last_arrival: 14, most: 4, spare: 5 },
+        Kind::ManyJobs => Draw { jobs: (5, 8), last_arrival: 30, most: 3, spare: 12 },
+        Kind::Crowded => Draw { jobs: (5, 8), last_arrival: 9, most: 2, spare: 20 },
+        Kind::Tight => Draw { jobs: (2, 5), last_arrival: 14, most: 4, spare: 4 },
         Kind::Loose => Draw { jobs: (1, 3), last_arrival: 20, most: 3, spare: 90 },
         Kind::SameArrival => Draw { jobs: (2, 6), last_arrival: 0, most: 2, spare: 10 },
-        Kind::SpreadArrivals => Draw { jobs: (3, 8), last_arrival: 80, most: 4, spare: 12 },
+        Kind::SpreadArrivals => Draw { jobs: (3, 8), last_arrival: 80, most: 5, spare: 8 },
         Kind::DueAt255 => Draw { jobs: (1, 4), last_arrival: 0, most: 4, spare: 14 },
         Kind::Anything => Draw { jobs: (1, 8), last_arrival: 250, most: 255, spare: 255 },
     }
@@ -107,7 +110,9 @@ pub fn bad() -> Vec<Bad> {
 /// Of any length but 4, 8, .. 32 numbers; the numbers would make good jobs, or bad ones.
 fn bad_lengths() -> Vec<Bad> {
     let lengths = (0..=48).filter(|&length| length % 4 != 0 || length == 0 || length > 32);
-    lengths.flat_map(|length| [bad_length(length, [0, 1, 1, 9]), bad_length(length, [0; 4])]).collect()
+    lengths
+        .flat_map(|length| [bad_length(length, [0, 1, 1, 9]), bad_length(length, [0; 4])])
+        .collect()
 }
 
 fn bad_length(length: usize, job: [u16; 4]) -> Bad {
