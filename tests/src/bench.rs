@@ -9,7 +9,6 @@ use crate::second::calls::{self, table_of, WORK_WORDS};
 use crate::second::file::write;
 use crate::second::sheet::Sheet;
 use crate::tuned;
-use std::hint::black_box;
 use std::time::{Duration, Instant};
 
 /// Each is called until this much time has passed; the fastest call counts.
@@ -25,14 +24,17 @@ pub fn run() {
     }
 }
 
-fn fastest(mut call: impl FnMut()) -> f64 {
+/// The calls' answers are added up and looked at, so that no call can be left out.
+fn fastest(mut call: impl FnMut() -> usize) -> f64 {
     let begin = Instant::now();
     let mut least = f64::MAX;
+    let mut answers = 0;
     while begin.elapsed() < A_WHILE {
         let before = Instant::now();
-        call();
+        answers += call();
         least = least.min(before.elapsed().as_secs_f64());
     }
+    assert!(answers < usize::MAX, "an answer");
     least * 1e6
 }
 
@@ -47,13 +49,9 @@ fn print_times(what: &str, plain: f64, others: &[(&str, f64)]) {
 fn make(sheet: &Found) {
     let numbers = sheet.numbers();
     let (mut work, mut out) = (vec![0; WORK_WORDS], vec![0; 65_536]);
-    let plain = fastest(|| {
-        black_box(calls::make(&numbers, &mut work, &mut out));
-    });
+    let plain = fastest(|| calls::make(&numbers, &mut work, &mut out).length as usize);
     let jobs = Sheet::of_numbers(&numbers).expect("good length");
-    let tuned = fastest(|| {
-        black_box(tuned::make(&jobs));
-    });
+    let tuned = fastest(|| tuned::make(&jobs).map_or(0, |file| file.len()));
     let mut others = vec![("tuned", tuned)];
     others.extend(product_make(&numbers));
     print_times(&format!("make, {}", sheet.what), plain, &others);
@@ -66,9 +64,7 @@ fn row(sheet: &Found) {
     };
     let file = write(&table.sheet, &table.rows);
     let word = table.rows[table.rows.len() / 2].word;
-    let plain = fastest(|| {
-        black_box(calls::row(&file, word));
-    });
+    let plain = fastest(|| usize::from(calls::row(&file, word).tick));
     print_times(&format!("row, {}", sheet.what), plain, &product_row(&file, word));
 }
 
@@ -77,18 +73,14 @@ fn product_make(numbers: &[u16]) -> Vec<(&'static str, f64)> {
     let sheet = Lent::shared(numbers, Placement::EndsAtGuard);
     let work = Lent::copy_of(&vec![0; WORK_WORDS], Placement::EndsAtGuard);
     let out = Lent::copy_of(&vec![0; 65_536], Placement::EndsAtGuard);
-    let time = fastest(|| {
-        black_box(library::make(&sheet, &work, &out));
-    });
+    let time = fastest(|| library::make(&sheet, &work, &out).length as usize);
     vec![("product", time)]
 }
 
 #[cfg(linked)]
 fn product_row(file: &[u8], word: u32) -> Vec<(&'static str, f64)> {
     let lent = Lent::shared(file, Placement::EndsAtGuard);
-    let time = fastest(|| {
-        black_box(library::row(&lent, word));
-    });
+    let time = fastest(|| usize::from(library::row(&lent, word).tick));
     vec![("product", time)]
 }
 

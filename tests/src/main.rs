@@ -18,6 +18,7 @@ mod guarded;
 #[cfg(linked)]
 mod library;
 mod limits;
+mod played;
 mod random;
 mod refusals;
 mod replies;
@@ -71,6 +72,7 @@ fn usage() -> ExitCode {
 fn own_tests() {
     worked::run();
     refusals::run();
+    played::run();
     limits::run();
     forms::run();
 }

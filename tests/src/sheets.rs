@@ -71,6 +71,25 @@ pub fn of_kind(kind: Kind, random: &mut Random) -> Vec<u16> {
     numbers
 }
 
+/// Every sheet of so many jobs of good form with arrivals and due ticks up to these.
+pub fn small(jobs: usize, last_arrival: u16, most_due: u16) -> Vec<Vec<u16>> {
+    let mut one_job = Vec::new();
+    for arrival in 0..=last_arrival {
+        for due in 1..=most_due {
+            for most in 1..=due {
+                one_job.extend((1..=most).map(|fewest| [arrival, fewest, most, due]));
+            }
+        }
+    }
+    let mut sheets = vec![Vec::new()];
+    for _ in 0..jobs {
+        let longer =
+            |sheet: &Vec<u16>| one_job.iter().map(|job| [sheet, &job[..]].concat()).collect();
+        sheets = sheets.iter().flat_map::<Vec<Vec<u16>>, _>(longer).collect();
+    }
+    sheets
+}
+
 /// A sheet of bad length or with a job of bad form, and its refusal.
 pub struct Bad {
     pub what: String,

@@ -8,6 +8,7 @@ use crate::tally::{test, Outcome};
 use crate::worked::{S1, S2};
 use std::io::Write;
 use std::process::{Command, Stdio};
+use std::thread;
 
 pub fn run(program: &str, seed: u64, cases: usize) {
     let mut random = Random::new(seed + 300);
@@ -44,11 +45,12 @@ fn printed(program: &str, text: &[u8]) -> Result<Vec<u8>, String> {
         .stdout(Stdio::piped())
         .spawn()
         .map_err(|why| format!("{} does not run: {}", program, why))?;
-    if let Some(mut input) = child.stdin.take() {
-        // The program need not read a text to its end to refuse it.
-        let _ = input.write_all(text);
-    }
+    let input = child.stdin.take();
+    let bytes = text.to_vec();
+    // Beside the reading of what it prints, and with no word if the program stops reading early.
+    let writer = thread::spawn(move || input.map(|mut input| input.write_all(&bytes)));
     let output = child.wait_with_output().map_err(|why| why.to_string())?;
+    drop(writer.join());
     match output.status.code() {
         Some(_) => Ok(output.stdout),
         None => Err(format!("{:?} ends the program by a signal", String::from_utf8_lossy(text))),

@@ -14,6 +14,7 @@ pub fn run(seed: u64, cases: usize) {
     found_sheets();
     bad_sheets();
     small_work();
+    small_sheets();
     for kind in KINDS {
         let mut group = Group::new(&format!("make: random sheets, {:?}", kind));
         let mut random = Random::new(seed + kind as u64);
@@ -145,6 +146,17 @@ fn small_work() {
             for bytes in [0, 1_023, 65_536] {
                 lent(&mut group, numbers, words, bytes);
             }
+        }
+    }
+    group.close();
+}
+
+/// Every sheet of one, two and three small jobs.
+fn small_sheets() {
+    let mut group = Group::new("make: every sheet of up to three small jobs");
+    for (jobs, last_arrival, most_due) in [(1, 6, 8), (2, 2, 4), (3, 1, 2)] {
+        for numbers in sheets::small(jobs, last_arrival, most_due) {
+            lent(&mut group, &numbers, WORK_WORDS, needed(&numbers));
         }
     }
     group.close();

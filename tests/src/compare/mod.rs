@@ -3,6 +3,7 @@
 mod making;
 mod questions;
 mod reading;
+mod walks;
 
 use crate::guarded::watch_for_faults;
 use crate::tally::test;
@@ -13,6 +14,7 @@ pub fn run(seed: u64, cases: usize) {
     watch_for_faults();
     making::run(seed, cases);
     reading::run(seed, cases);
+    walks::run(seed, cases);
 }
 
 /// One test of many cases. Its first mismatch is printed whole.

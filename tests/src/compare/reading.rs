@@ -6,15 +6,12 @@ use crate::clauses;
 use crate::damage::{self, Damaged};
 use crate::foreign;
 use crate::found::{self, BLOCK_EDGES};
-use crate::guarded::{described, Lent, Placement};
-use crate::library;
+use crate::guarded::Placement;
 use crate::random::Random;
-use crate::replies::Desk;
-use crate::second::calls::{self, table_of};
+use crate::second::calls::table_of;
 use crate::second::file::{write, MOST_BLOCKS, SLOTS};
 use crate::second::form::{read, Table};
 use crate::second::sheet::Sheet;
-use crate::second::state::{Event, State};
 use crate::second::table::Row;
 use crate::sheets::{self, KINDS};
 use crate::worked::{S1, S2};
@@ -29,7 +26,6 @@ pub fn run(seed: u64, cases: usize) {
     random_rows(cases, &mut random);
     large_files(&mut random);
     foreign_files(cases, &mut random);
-    walks(cases, &mut random);
 }
 
 /// Tables of sheets that are known to be scheduled.
@@ -189,55 +185,4 @@ fn foreign_files(cases: usize, random: &mut Random) {
         ask(&mut group, "a foreign file", &file_of(&table), some(&table, 40, random), turn);
     }
     group.close();
-}
-
-/// The desk is kept by the product alone from step to step, and must follow each event.
-fn walks(cases: usize, random: &mut Random) {
-    let mut group = Group::new("walks from the start");
-    for turn in 0..cases {
-        let kind = *random.pick(&KINDS);
-        let numbers = sheets::of_kind(kind, random);
-        if let Ok(table) = table_of(&numbers) {
-            if table.rows.len() < 2_000 {
-                walk(&mut group, &table, turn, random);
-            }
-        }
-    }
-    group.close();
-}
-
-fn walk(group: &mut Group, table: &Table, turn: usize, random: &mut Random) {
-    let bytes = file_of(table);
-    let file = Lent::shared(&bytes, Placement::in_turn(turn));
-    let lent = Lent::copy_of(&[State::start().desk()], Placement::in_turn(turn + 1));
-    let mut desk = State::start().desk();
-    for _ in 0..120 {
-        group.next_case();
-        let event = possible_byte(table, &desk, random);
-        let before = desk;
-        let describe = || {
-            let numbers = table.sheet.numbers();
-            format!("event {} at desk {:?} in the table of sheet {:?}", event, before, numbers)
-        };
-        let (reply, after) = calls::step(&bytes, desk, event);
-        desk = after;
-        let found = described(&describe, || library::step(&file, &lent, event));
-        group.same(&describe, "the reply", found, reply);
-        group.same(&describe, "the desk", lent.items()[0], after);
-    }
-}
-
-/// The byte of an event that is possible on this desk, allowed by its row or not.
-fn possible_byte(table: &Table, desk: &Desk, random: &mut Random) -> u8 {
-    let byte_of = |event: &Event| match *event {
-        Event::Tick => 0,
-        Event::Arrival(job) => job as u8,
-        Event::Start(job) => 16 + job as u8,
-        Event::Ending(job) => 32 + job as u8,
-    };
-    let state = State::of_desk(desk).expect("a desk that follows a table");
-    let events = Event::all(table.sheet.count());
-    let possible: Vec<u8> =
-        events.iter().filter(|&&e| state.possible(&table.sheet, e)).map(byte_of).collect();
-    *random.pick(&possible)
 }
