@@ -87,7 +87,7 @@ pub fn few(random: &mut Random) -> Vec<Question> {
 pub fn every(table: &Table) -> Vec<Question> {
     let mut list = Vec::new();
     let rows = table.rows.len() as u32;
-    for row_number in (0..=rows + 2).chain([255, 256, 65_536, 1 << 31, u32::MAX]) {
+    for row_number in (0..=rows + 2).chain([256, 257, 65_536, 65_537, (1 << 31) + 1, u32::MAX]) {
         list.push(Question::Listing { row_number });
     }
     for row in &table.rows {
@@ -95,7 +95,7 @@ pub fn every(table: &Table) -> Vec<Question> {
         for near in [word, word.wrapping_sub(1), word.wrapping_add(1), word ^ (1 << 24)] {
             list.push(Question::Row { word: near });
         }
-        for job in (0..=9).chain([255, 256, 257, 258, 65_537, u32::MAX]) {
+        for job in (0..=9).chain([255, 256, 257, 258, 65_537, (1 << 31) + 1, u32::MAX]) {
             list.push(Question::Leeway { word, job });
         }
         let desk = State::of_word(word).desk();
