@@ -1,8 +1,9 @@
 //! Memory lent to a call between guard pages. A touch past the end or before the beginning faults,
 //! and bytes between a guard page and the lent part hold a pattern that is looked at afterwards.
 
+use crate::tally;
 use std::ffi::c_void;
-use std::mem::{align_of, size_of};
+use std::mem::{align_of, size_of, transmute};
 use std::ptr;
 use std::slice;
 use std::sync::atomic::{AtomicPtr, Ordering::SeqCst};
@@ -154,7 +155,7 @@ pub fn described<R>(describe: &dyn Fn() -> String, call: impl FnOnce() -> R) -> 
     let mut described: &dyn Fn() -> String = describe;
     let place: *mut &dyn Fn() -> String = &mut described;
     // SAFETY: only the lifetime goes; the place is taken away before it ends.
-    CALLED.store(unsafe { std::mem::transmute(place) }, SeqCst);
+    CALLED.store(unsafe { transmute(place) }, SeqCst);
     let result = call();
     CALLED.store(ptr::null_mut(), SeqCst);
     result
@@ -174,8 +175,8 @@ extern "C" fn fault(_number: i32) {
     let place = CALLED.load(SeqCst);
     // SAFETY: not null only during `described`, which keeps the description alive.
     let case = if place.is_null() { String::new() } else { unsafe { (*place)() } };
-    crate::tally::test("memory outside what was lent is not touched", Err(case));
-    crate::tally::close();
+    tally::test("memory outside what was lent is not touched", Err(case));
+    tally::close();
     // SAFETY: ends the program.
     unsafe { _exit(1) }
 }

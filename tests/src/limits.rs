@@ -6,10 +6,13 @@ use crate::replies::MakeReply;
 use crate::second::calls::{file_bytes, make, table_of, MANY_LIVE, NOT_SAFE, WORK_WORDS};
 use crate::second::file::write;
 use crate::second::sheet::Sheet;
-use crate::second::table::{Live, MOST_LIVE};
+use crate::second::table::Live;
 use crate::sheets;
 use crate::tally::{same, test, Outcome};
 use crate::tuned;
+
+/// Written once more, so that a wrong constant of the second program is seen.
+const LIMIT: usize = 7_874;
 
 pub fn run() {
     for sheet in found::all() {
@@ -26,14 +29,14 @@ pub fn run() {
 /// The counts, looked for past the limit too, and make's reply.
 fn counts(numbers: &[u16], live: usize, rows: usize) -> Outcome {
     let sheet = Sheet::of_numbers(numbers).ok_or("of bad length")?;
-    let found = Live::of_sheet(&sheet, 2 * MOST_LIVE).ok_or("far too many live states")?;
+    let found = Live::of_sheet(&sheet, 2 * LIMIT).ok_or("far too many live states")?;
     same("live and rows", (found.count(), found.rows().len()), (live, rows))?;
     let reply = make(numbers, &mut [1; WORK_WORDS], &mut [1; 65_536]);
     same("make's reply", reply, reply_for(live, rows))
 }
 
 fn reply_for(live: usize, rows: usize) -> MakeReply {
-    if live > MOST_LIVE {
+    if live > LIMIT {
         MakeReply { number: MANY_LIVE, detail: 0, length: 0 }
     } else if rows == 0 {
         MakeReply { number: NOT_SAFE, detail: 0, length: 0 }

@@ -6,6 +6,7 @@
 //! printing program, named by its path. `bench` measures.
 
 mod bench;
+mod buffers;
 mod clauses;
 #[cfg(linked)]
 mod compare;
@@ -72,6 +73,7 @@ fn usage() -> ExitCode {
 fn own_tests() {
     worked::run();
     refusals::run();
+    buffers::run();
     played::run();
     limits::run();
     forms::run();
