@@ -50,7 +50,7 @@ fn rows_of_s1() -> Outcome {
         let found = (reply.number, reply.detail, reply.starts, reply.tick);
         same(&format!("row {}", word), found, (0, 0, starts, tick))?;
     }
-    for word in [4, 16_777_217, 16_777_218, 16_842_753, 16_842_755, u32::MAX] {
+    for word in [4, 16_777_217, 16_777_218, 16_842_753, 16_842_755, (1 << 31) + 1, u32::MAX] {
         let reply = row(&file, word);
         let found = (reply.number, reply.detail, reply.starts, reply.tick);
         same(&format!("row {}", word), found, (8, 0, 0, 0))?;
@@ -70,7 +70,7 @@ fn listings_of_s1() -> Outcome {
     let last = ListingReply { word: 16_842_754, ..listed };
     same("row 5", listing(&file, 5), last)?;
     let none = ListingReply { number: 8, ..ListingReply::default() };
-    for row_number in [0, 6, u32::MAX] {
+    for row_number in [0, 6, 257, 65_537, (1 << 31) + 1, u32::MAX] {
         same("a row that is not there", listing(&file, row_number), none)?;
     }
     let bad = ListingReply { number: 7, detail: 1, ..ListingReply::default() };
@@ -90,6 +90,8 @@ fn leeways_of_s2() -> Outcome {
         (running_2, 2, (12, 0)),
         (no_row, 0, (9, 0)),
         (no_row, 3, (9, 0)),
+        (0, 257, (9, 0)),
+        (0, 65_537, (9, 0)),
         (0, u32::MAX, (9, 0)),
         (no_row, 1, (8, 0)),
     ];
