@@ -1,0 +1,95 @@
+//! Times of the makers and readers on the largest sheets, and their ratios, measured in one run.
+
+use crate::found::{self, Found};
+#[cfg(linked)]
+use crate::guarded::{Lent, Placement};
+#[cfg(linked)]
+use crate::library;
+use crate::second::calls::{self, table_of, WORK_WORDS};
+use crate::second::file::write;
+use crate::second::sheet::Sheet;
+use crate::tuned;
+use std::time::{Duration, Instant};
+
+/// Each is called until this much time has passed; the fastest call counts.
+const A_WHILE: Duration = Duration::from_millis(150);
+
+pub fn run() {
+    println!("fastest call in microseconds; the product only where it is linked");
+    for sheet in found::all() {
+        make(sheet);
+    }
+    for sheet in found::all().iter().filter(|sheet| sheet.rows > 7_000) {
+        row(sheet);
+    }
+}
+
+/// The calls' answers are added up and looked at, so that no call can be left out.
+fn fastest(mut call: impl FnMut() -> usize) -> f64 {
+    let begin = Instant::now();
+    let mut least = f64::MAX;
+    let mut answers = 0;
+    while begin.elapsed() < A_WHILE {
+        let before = Instant::now();
+        answers += call();
+        least = least.min(before.elapsed().as_secs_f64());
+    }
+    assert!(answers < usize::MAX, "an answer");
+    least * 1e6
+}
+
+fn print_times(what: &str, plain: f64, others: &[(&str, f64)]) {
+    let mut line = format!("{}: second program {:.1}", what, plain);
+    for (name, time) in others {
+        line += &format!(", {} {:.1} ({:.2} of it)", name, time, time / plain);
+    }
+    println!("{}", line);
+}
+
+fn make(sheet: &Found) {
+    let numbers = sheet.numbers();
+    let (mut work, mut out) = (vec![0; WORK_WORDS], vec![0; 65_536]);
+    let plain = fastest(|| calls::make(&numbers, &mut work, &mut out).length as usize);
+    let jobs = Sheet::of_numbers(&numbers).expect("good length");
+    let tuned = fastest(|| tuned::make(&jobs).map_or(0, |file| file.len()));
+    let mut others = vec![("tuned", tuned)];
+    others.extend(product_make(&numbers));
+    print_times(&format!("make, {}", sheet.what), plain, &others);
+}
+
+fn row(sheet: &Found) {
+    let table = match table_of(&sheet.numbers()) {
+        Ok(table) => table,
+        Err(_) => return,
+    };
+    let file = write(&table.sheet, &table.rows);
+    let word = table.rows[table.rows.len() / 2].word;
+    let plain = fastest(|| usize::from(calls::row(&file, word).tick));
+    print_times(&format!("row, {}", sheet.what), plain, &product_row(&file, word));
+}
+
+#[cfg(linked)]
+fn product_make(numbers: &[u16]) -> Vec<(&'static str, f64)> {
+    let sheet = Lent::shared(numbers, Placement::EndsAtGuard);
+    let work = Lent::copy_of(&vec![0; WORK_WORDS], Placement::EndsAtGuard);
+    let out = Lent::copy_of(&vec![0; 65_536], Placement::EndsAtGuard);
+    let time = fastest(|| library::make(&sheet, &work, &out).length as usize);
+    vec![("product", time)]
+}
+
+#[cfg(linked)]
+fn product_row(file: &[u8], word: u32) -> Vec<(&'static str, f64)> {
+    let lent = Lent::shared(file, Placement::EndsAtGuard);
+    let time = fastest(|| usize::from(library::row(&lent, word).tick));
+    vec![("product", time)]
+}
+
+#[cfg(not(linked))]
+fn product_make(_numbers: &[u16]) -> Vec<(&'static str, f64)> {
+    Vec::new()
+}
+
+#[cfg(not(linked))]
+fn product_row(_file: &[u8], _word: u32) -> Vec<(&'static str, f64)> {
+    Vec::new()
+}

@@ -1,0 +1,107 @@
+//! The second program's reader against rows and files whose form was settled by hand.
+
+use crate::clauses;
+use crate::damage::{self, Damaged, Wanted};
+use crate::foreign;
+use crate::found::BLOCK_EDGES;
+use crate::random::Random;
+use crate::second::calls::table_of;
+use crate::second::file::{write, MOST_BLOCKS, SLOTS};
+use crate::second::form::{read, Table};
+use crate::tally::{same, test, Outcome};
+use crate::worked::{S1, S2};
+
+pub fn run() {
+    test("rows at each clause, beside the start's row", rows_alone());
+    test("rows at each clause, in a longer file", rows_among());
+    test("damaged files: S1", damages(&S1));
+    test("damaged files: S2", damages(&S2));
+    for sheet in &BLOCK_EDGES[..5] {
+        test(&format!("damaged files: {}", sheet.what), damages(&sheet.numbers()));
+    }
+    test("made tables are read back", read_back());
+    test("foreign tables are read back, 7,874 rows at most", foreign_files());
+    test("every changed bit is found", bits());
+    test("any bytes are answered with a block that is there", any_bytes());
+}
+
+fn form_of(file: &[u8]) -> Wanted {
+    match read(file) {
+        Ok(_) => Wanted::Good,
+        Err(block) => Wanted::LowestBad(block as usize),
+    }
+}
+
+fn made(numbers: &[u16]) -> Result<Table, String> {
+    table_of(numbers).map_err(|refusal| format!("refused {:?}", refusal))
+}
+
+fn rows_alone() -> Outcome {
+    for case in clauses::all() {
+        let wanted = if case.good { Wanted::Good } else { Wanted::LowestBad(1) };
+        same(case.clause, form_of(&case.alone()), wanted)?;
+    }
+    Ok(())
+}
+
+fn rows_among() -> Outcome {
+    let mut random = Random::new(3);
+    for case in clauses::all() {
+        let table = foreign::table(&case.sheet, 4 * SLOTS, &mut random);
+        let (file, block) = case.among(&table);
+        let wanted = if case.good { Wanted::Good } else { Wanted::LowestBad(block as usize) };
+        same(case.clause, form_of(&file), wanted)?;
+    }
+    Ok(())
+}
+
+fn damages(numbers: &[u16]) -> Outcome {
+    damage::all(&made(numbers)?).iter().try_for_each(as_wanted)
+}
+
+fn as_wanted(damaged: &Damaged) -> Outcome {
+    same(&damaged.rule, form_of(&damaged.file), damaged.wanted)
+}
+
+fn read_back() -> Outcome {
+    for sheet in &BLOCK_EDGES {
+        let table = made(&sheet.numbers())?;
+        let again = read(&write(&table.sheet, &table.rows)).map_err(|b| format!("block {}", b))?;
+        same("the sheet", again.sheet, table.sheet)?;
+        same("the list of rows", again.rows, table.rows)?;
+    }
+    Ok(())
+}
+
+fn foreign_files() -> Outcome {
+    let most = (MOST_BLOCKS - 1) * SLOTS;
+    let mut random = Random::new(5);
+    for rows in [1, 2, SLOTS, SLOTS + 1, most] {
+        let table = foreign::table(&foreign::wide_sheet(), rows, &mut random);
+        same("the number of rows", table.rows.len(), rows)?;
+        same("the form", form_of(&write(&table.sheet, &table.rows)), Wanted::Good)?;
+    }
+    let table = foreign::table(&foreign::wide_sheet(), most + 1, &mut random);
+    same("129 blocks", form_of(&write(&table.sheet, &table.rows)), Wanted::LowestBad(0))
+}
+
+fn bits() -> Outcome {
+    let table = made(&S2)?;
+    let file = write(&table.sheet, &table.rows);
+    let mut random = Random::new(7);
+    (0..500).try_for_each(|_| as_wanted(&damage::bit_flipped(&file, false, &mut random)))
+}
+
+fn any_bytes() -> Outcome {
+    let mut random = Random::new(8);
+    let mut files: Vec<Damaged> = (0..200).map(|_| damage::random_bytes(&mut random)).collect();
+    let one = foreign::table(&foreign::wide_sheet(), 3 * SLOTS, &mut random);
+    let other = foreign::table(&foreign::wide_sheet(), 3 * SLOTS, &mut random);
+    files.extend(damage::mixed(&write(&one.sheet, &one.rows), &write(&other.sheet, &other.rows)));
+    for damaged in &files {
+        if let Wanted::LowestBad(block) = form_of(&damaged.file) {
+            same(&damaged.rule, block < damage::blocks_of(&damaged.file), true)?;
+        }
+    }
+    Ok(())
+}

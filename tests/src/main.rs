@@ -1,0 +1,92 @@
+//! The tests of Smirrado.
+//!
+//! `self` holds the second program to the sheets worked by hand, to counts at the limits and to
+//! files whose form was settled by hand. `compare` holds every call of the product to the second
+//! program; it is there when the product's library is linked. `text` does the same for the
+//! printing program, named by its path. `bench` measures.
+
+mod bench;
+mod buffers;
+mod clauses;
+#[cfg(linked)]
+mod compare;
+mod damage;
+mod foreign;
+mod forms;
+mod found;
+#[cfg(linked)]
+mod guarded;
+#[cfg(linked)]
+mod library;
+mod limits;
+mod played;
+mod random;
+mod refusals;
+mod replies;
+mod second;
+mod sheets;
+mod tally;
+mod texts;
+mod tuned;
+mod worked;
+
+use std::env;
+use std::process::ExitCode;
+
+const USAGE: &str = "usage: tests self
+       tests compare [--seed N] [--cases N]
+       tests text PROGRAM [--seed N] [--cases N]
+       tests bench";
+
+fn main() -> ExitCode {
+    let arguments: Vec<String> = env::args().skip(1).collect();
+    let words: Vec<&str> = arguments.iter().map(String::as_str).collect();
+    match words.split_first() {
+        Some((&"self", [])) => own_tests(),
+        #[cfg(linked)]
+        Some((&"compare", rest)) => match seed_and_cases(rest) {
+            Some((seed, cases)) => compare::run(seed, cases),
+            None => return usage(),
+        },
+        Some((&"text", [program, rest @ ..])) => match seed_and_cases(rest) {
+            Some((seed, cases)) => texts::run(program, seed, cases),
+            None => return usage(),
+        },
+        Some((&"bench", [])) => {
+            bench::run();
+            return ExitCode::SUCCESS;
+        }
+        _ => return usage(),
+    }
+    if tally::close() {
+        ExitCode::SUCCESS
+    } else {
+        ExitCode::FAILURE
+    }
+}
+
+fn usage() -> ExitCode {
+    eprintln!("{}", USAGE);
+    ExitCode::from(2)
+}
+
+fn own_tests() {
+    worked::run();
+    refusals::run();
+    buffers::run();
+    played::run();
+    limits::run();
+    forms::run();
+}
+
+fn seed_and_cases(words: &[&str]) -> Option<(u64, usize)> {
+    let (mut seed, mut cases) = (1, 100);
+    for pair in words.chunks(2) {
+        match pair {
+            ["--seed", number] => seed = number.parse().ok()?,
+            ["--cases", number] => cases = number.parse().ok()?,
+            _ => return None,
+        }
+    }
+    Some((seed, cases))
+}

@@ -1,0 +1,136 @@
+//! The printing program, run as a process, against the second program: bytes in, bytes out.
+
+use crate::found;
+use crate::random::Random;
+use crate::second::text::print;
+use crate::sheets::{self, KINDS};
+use crate::tally::{test, Outcome};
+use crate::worked::{S1, S2};
+use std::io::Write;
+use std::process::{Command, Stdio};
+use std::thread;
+
+pub fn run(program: &str, seed: u64, cases: usize) {
+    let mut random = Random::new(seed + 300);
+    let known: Vec<Vec<u8>> = [S1.to_vec(), S2.to_vec()].iter().map(|s| text_of(s)).collect();
+    test("prints the worked sheets", all_same(program, &known));
+    let limits: Vec<Vec<u8>> = found::all().iter().map(|s| text_of(&s.numbers())).collect();
+    test("prints the sheets at the limits", all_same(program, &limits));
+    let later = found::MOST_LIVE.iter().map(|sheet| text_of(&sheet.one_tick_later())).collect();
+    test("refuses the sheets past the limits", all_same(program, &later));
+    test("refuses texts of another form", all_same(program, &other_forms()));
+    let sheets: Vec<Vec<u8>> = (0..cases).map(|_| random_text(&mut random)).collect();
+    test("prints random sheets", all_same(program, &sheets));
+    let changed = sheets.iter().map(|text| change(text, &mut random)).collect();
+    test("answers texts with a byte changed", all_same(program, &changed));
+}
+
+fn all_same(program: &str, texts: &Vec<Vec<u8>>) -> Outcome {
+    texts.iter().try_for_each(|text| same_text(program, text))
+}
+
+fn same_text(program: &str, text: &[u8]) -> Outcome {
+    let found = printed(program, text)?;
+    let wanted = print(text);
+    if found == wanted {
+        return Ok(());
+    }
+    let shown = |bytes: &[u8]| String::from_utf8_lossy(bytes).into_owned();
+    Err(format!("{:?} prints {:?}, not {:?}", shown(text), shown(&found), shown(&wanted)))
+}
+
+fn printed(program: &str, text: &[u8]) -> Result<Vec<u8>, String> {
+    let mut child = Command::new(program)
+        .stdin(Stdio::piped())
+        .stdout(Stdio::piped())
+        .spawn()
+        .map_err(|why| format!("{} does not run: {}", program, why))?;
+    let input = child.stdin.take();
+    let bytes = text.to_vec();
+    // Beside the reading of what it prints, and with no word if the program stops reading early.
+    let writer = thread::spawn(move || input.map(|mut input| input.write_all(&bytes)));
+    let output = child.wait_with_output().map_err(|why| why.to_string())?;
+    drop(writer.join());
+    match output.status.code() {
+        Some(_) => Ok(output.stdout),
+        None => Err(format!("{:?} ends the program by a signal", String::from_utf8_lossy(text))),
+    }
+}
+
+/// A line a job, each ended by byte 10.
+fn text_of(numbers: &[u16]) -> Vec<u8> {
+    let line = |job: &[u16]| format!("{} {} {} {}\n", job[0], job[1], job[2], job[3]);
+    numbers.chunks(4).map(line).collect::<String>().into_bytes()
+}
+
+fn other_forms() -> Vec<Vec<u8>> {
+    let line = "255 255 255 255\n";
+    let mut texts: Vec<String> = [
+        "",
+        "\n",
+        " ",
+        "0",
+        "0 1 1 1",
+        "0 1 1 1\r\n",
+        "0 1 1 1\n\n",
+        "\n0 1 1 1\n",
+        "0  1 1 1\n",
+        " 0 1 1 1\n",
+        "0 1 1 1 \n",
+        "0\t1 1 1\n",
+        "0 1 1\n",
+        "0 1 1 1 1\n",
+        "0 1 1 -1\n",
+        "0 1 1 +1\n",
+        "0 1 1 0x1\n",
+        "0 1 1 a\n",
+        "0 1 1 1,\n",
+        "0 1 1 0001\n",
+        "0 1 1 1000\n",
+        "0 1 1 1\n0 1 1 1",
+        "0 1 1 1\n0 1 1\n",
+        "0 1 1 1\u{0}\n",
+        "0 1 1 1\n\u{0}",
+        "0 1 1 1\n ",
+        "0 1 1 1\n0",
+        "0 1 1 1 0 1 1 1\n",
+        "0 1\n1 1\n",
+        "0 1 1 \u{661}\n",
+        "0 1 1 1\n0 1 1 1\n\n",
+        "000 001 01 1\n",
+        "0 1 1 999\n",
+        "999 999 999 999\n",
+        "0 0 0 0\n",
+        "0 1 1 1\n0 0 1 1\n",
+    ]
+    .map(String::from)
+    .to_vec();
+    for lines in [7, 8, 9, 16, 500] {
+        texts.push("0 1 1 9\n".repeat(lines));
+        texts.push(line.repeat(lines));
+        texts.push(line.repeat(lines) + "0");
+        texts.push(line.repeat(lines) + "\n");
+    }
+    texts.push("0 1 1 9\n".repeat(8) + &" ".repeat(300));
+    texts.push("1".repeat(70_000));
+    texts.push("\n".repeat(70_000));
+    texts.into_iter().map(String::into_bytes).collect()
+}
+
+fn random_text(random: &mut Random) -> Vec<u8> {
+    let kind = *random.pick(&KINDS);
+    text_of(&sheets::of_kind(kind, random))
+}
+
+/// A byte taken out, put in or replaced.
+fn change(text: &[u8], random: &mut Random) -> Vec<u8> {
+    let mut changed = text.to_vec();
+    let at = random.below(text.len());
+    let byte = *random.pick(b"0123456789 \n\r\t-a\0");
+    match random.below(3) {
+        0 => drop(changed.remove(at)),
+        1 => changed.insert(at, byte),
+        _ => changed[at] = byte,
+    }
+    changed
+}
