@@ -1,0 +1,125 @@
+-- Each job passed fits, and what is told of them grows by one job. Assumes nothing.
+use Prim.Native.Nat.{_-_, _≤_}
+use mathlib.Core.Path.{_≡_}
+use native.Mathlib.Omega.{arith}
+use borrow.Author.Needs.{needs}
+use borrow.Author.Tests.{not-true, not-false}
+use Rattle.sheet.specs.Form.{state-of}
+use Rattle.sheet.specs.WordLaws.{digits-lt}
+use Rattle.state.specs.Clocks.{sheet-of}
+use Rattle.state.specs.Tell.{told-yes, told-no}
+use Rattle.form.specs.declared.row.Seen.the-variants.{Passed}
+use Rattle.form.specs.RowTest.{Tells}
+use Rattle.form.specs.PassLaws.{pass-none, not-fit, two-run, pass-more}
+use Rattle.form.proofs.row.pass.Statement.{statement}
+use Rattle.form.proofs.row.pass.Tie as tie
+
+abbrev Inv-loop : tie.InvT-loop
+Inv-loop n word starts code jobs now elapsed opens running₀ held₀ k₀ running held k = (k ≤ n) × Tells (sheet-of jobs n) (state-of word) starts code k (Passed running held)
+
+abbrev μ-loop : tie.MeasureT-loop
+μ-loop n word starts code jobs now elapsed opens running₀ held₀ k₀ running held k = n - k
+
+now-of-requires : tie.Need-now-of-requires Inv-loop μ-loop
+now-of-requires c κs = search needs
+
+elapsed-of-requires : tie.Need-elapsed-of-requires Inv-loop μ-loop
+elapsed-of-requires c κs = search needs
+
+loop-holds : tie.Need-loop-holds Inv-loop μ-loop
+loop-holds c = let a = c .before .before .args in (search needs, pass-none (sheet-of (a .t1) (a .n)) (state-of (a .word)) (a .starts) (a .code))
+
+add-status-in : tie.Need-add-status-in Inv-loop μ-loop
+add-status-in c = search needs
+
+status-in-requires : tie.Need-status-in-requires Inv-loop μ-loop
+status-in-requires c κs = search needs
+
+add-has : tie.Need-add-has Inv-loop μ-loop
+add-has c = search needs
+
+has-requires : tie.Need-has-requires Inv-loop μ-loop
+has-requires c κs = search needs
+
+cast-job-fits : tie.Need-cast-job-fits Inv-loop μ-loop
+cast-job-fits c = search needs
+
+mul-job-fits : tie.Need-mul-job-fits Inv-loop μ-loop
+mul-job-fits c = search needs
+
+array-copy-out-job-fits : tie.Need-array-copy-out-job-fits Inv-loop μ-loop
+array-copy-out-job-fits c = search needs
+
+job-fits-requires : tie.Need-job-fits-requires Inv-loop μ-loop
+job-fits-requires c κs = (rw (c .before .before .status-in .ensures) (digits-lt 8 _ _), search needs)
+
+returns : tie.Need-returns Inv-loop μ-loop
+returns c =
+    let a = c .before .before .before .before .before .before .before .before .before .args in
+    not-fit (a .t1) (a .n) (a .word) (a .starts) (a .code) (c .before .before .before .before .before .before .loop .k) (search needs) (c .before .before .before .before .status-in .result) (c .before .before .before .has .result) (c .before .before .before .before .status-in .ensures) (c .before .before .before .has .ensures)
+    (rw (c .before .before .before .before .before .before .before .before .now-of .ensures .0, c .before .before .before .before .before .before .before .elapsed-of .ensures .0) at (told-no (c .before .job-fits .ensures) (not-true _ (c .if1 .taken))))
+
+returns-2 : tie.Need-returns-2 Inv-loop μ-loop
+returns-2 c =
+    let a = c .before .before .before .before .before .before .before .before .before .before .args in
+    two-run (a .t1) (a .n) (a .word) (a .starts) (a .code) (c .before .before .before .before .before .before .before .loop .k) (search needs) (c .before .before .before .before .before .status-in .result) (c .before .before .before .before .has .result) (c .before .before .before .before .before .status-in .ensures) (c .before .before .before .before .has .ensures) (c .before .before .before .before .before .before .before .loop .running) (c .before .before .before .before .before .before .before .loop .inv .1 .1) (c .if2 .taken)
+
+cast-holds : tie.Need-cast-holds Inv-loop μ-loop
+cast-holds c = search needs
+
+mul-holds : tie.Need-mul-holds Inv-loop μ-loop
+mul-holds c = search needs
+
+array-copy-out-holds : tie.Need-array-copy-out-holds Inv-loop μ-loop
+array-copy-out-holds c = search needs
+
+holds-requires : tie.Need-holds-requires Inv-loop μ-loop
+holds-requires c κs = search needs
+
+add-k : tie.Need-add-k Inv-loop μ-loop
+add-k c = search needs
+
+loop-less : tie.Need-loop-less Inv-loop μ-loop
+loop-less c = search needs
+
+loop-again : tie.Need-loop-again Inv-loop μ-loop
+loop-again c =
+    let a = c .before .before .before .before .before .before .before .before .before .before .before .before .args in (
+      search needs,
+      pass-more (a .t1) (a .n) (a .word) (a .starts) (a .code) (c .before .before .before .before .before .before .before .before .before .loop .k) (search needs) (c .before .before .before .before .before .before .before .status-in .result) (c .before .before .before .before .before .before .has .result) (c .before .before .before .before .before .before .before .status-in .ensures) (c .before .before .before .before .before .before .has .ensures) (c .before .before .before .before .before .before .before .before .before .loop .running) (c .before .before .before .before .before .before .before .before .before .loop .held) (c .holds .result)
+          (rw (c .before .before .before .before .before .before .before .before .before .before .before .now-of .ensures .0, c .before .before .before .before .before .before .before .before .before .before .elapsed-of .ensures .0) at (told-yes (c .before .before .before .before .job-fits .ensures) (not-false _ (c .before .before .before .if1 .left)))) (c .before .before .if2 .left) (rw (c .before .before .before .before .before .before .before .before .before .before .before .now-of .ensures .0, c .before .before .before .before .before .before .before .before .before .before .elapsed-of .ensures .0) at (c .holds .ensures)) (c .before .before .before .before .before .before .before .before .before .loop .inv .1),
+    )
+
+returns-3 : tie.Need-returns-3 Inv-loop μ-loop
+returns-3 c =
+    let a = c .before .before .before .before .args in
+    let e : c .before .loop .k ≡ a .n = omega arith in
+    rw e at (c .before .loop .inv .1)
+
+pub pass-spec : {M : Type 1} → statement M
+pass-spec =
+    tie.close
+    (tie.spec
+    Inv-loop
+    μ-loop
+    now-of-requires
+    elapsed-of-requires
+    loop-holds
+    add-status-in
+    status-in-requires
+    add-has
+    has-requires
+    cast-job-fits
+    mul-job-fits
+    array-copy-out-job-fits
+    job-fits-requires
+    returns
+    returns-2
+    cast-holds
+    mul-holds
+    array-copy-out-holds
+    holds-requires
+    add-k
+    loop-less
+    loop-again
+    returns-3)

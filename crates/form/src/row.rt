@@ -1,0 +1,143 @@
+// The form of one row: its word in order, its marks fitting.
+ghost use mathlib.Core.Path.{_≡_};
+ghost use mathlib.Core.Bool.{true};
+ghost use Prim.Native.Nat.{_-_, _≤_, _<_, _/_, _%_, _^_};
+ghost use lib.Dec.{eqb};
+ghost use Rattle.plant.specs.Reflect.{Is};
+ghost use Rattle.sheet.specs.Form.{state-of, Good-entry};
+ghost use Rattle.state.specs.Clocks.{job-of, sheet-of};
+ghost use Rattle.form.specs.RowTest.{Job-fits, Holds, Tells, Ends, Code-fits};
+use state::bits::has;
+use state::bits::status_in;
+
+// What a pass over the jobs tells: a job does not fit or two run; or else whether one runs, and whether the tick is not possible.
+pub enum Seen {
+    Refused,
+    Passed(bool, bool),
+}
+
+// A job's number as a u32, where no sum of two wraps.
+fn wide(x: u16) -> u32
+    ensures { λ r. ⌜ (r ≡ x) × (r ≤ 65535) ⌝ }
+{
+    x as u32
+}
+
+// The tick now of a state word.
+fn now_of(word: u32) -> u32
+    ensures { λ r. ⌜ (r ≡ word / 2 ^ 24) × (r < 256) ⌝ }
+{
+    word >> 24
+}
+
+// The elapsed ticks of a state word.
+fn elapsed_of(word: u32) -> u32
+    ensures { λ r. ⌜ (r ≡ word / 2 ^ 16 % 256) × (r < 256) ⌝ }
+{
+    (word >> 16) & 255
+}
+
+// Whether one job of this status fits, by the one rule that its status asks; only a ready job may be marked.
+fn job_fits(job: [u16; 4], s: u8, marked: bool, now: u32, elapsed: u32, opens: bool) -> bool
+    requires { ⌜ (s < 4) × ((now < 256) × (elapsed < 256)) ⌝ }
+    ensures { λ r. ⌜ Is r (Job-fits (job-of job) now elapsed s (marked ≡ true) (opens ≡ true)) ⌝ }
+{
+    let a = wide(job[0]);
+    let here = (a <= now) & (now + (opens as u32) <= a + wide(job[3]));
+    let runs = here & ((elapsed <= wide(job[2])) & (a + elapsed <= now));
+    let ended = a + wide(job[1]) <= now;
+    let others = ((s == 0) & (now <= a)) | (((s == 2) & runs) | ((s == 3) & ended));
+    ((s == 1) & here) | (!marked & others)
+}
+
+// Whether this job keeps the tick from being possible: its arrival is pending, or it has run for its most ticks.
+fn holds(job: [u16; 4], s: u8, now: u32, elapsed: u32) -> bool
+    ensures { λ r. ⌜ Is r (Holds (job-of job) now elapsed s) ⌝ }
+{
+    ((s == 0) & (now == wide(job[0]))) | ((s == 2) & (elapsed == wide(job[2])))
+}
+
+// One pass over the jobs. What is told of the jobs passed grows by one job at each turn.
+fn pass(jobs: [[u16; 4]; 8], n: u8, word: u32, starts: u8, code: u8) -> Seen
+    requires { ⌜ n ≤ 8 ⌝ }
+    ensures { λ r. ⌜ Tells (sheet-of jobs n) (state-of word) starts code n r ⌝ }
+{
+    let now = now_of(word);
+    let elapsed = elapsed_of(word);
+    let opens = code == 1;
+    let mut running = false;
+    let mut held = false;
+    let mut k: u8 = 0;
+    while k < n {
+        let s = status_in(word, k + 1);
+        let marked = has(starts, k + 1);
+        if !job_fits(jobs[k as usize], s, marked, now, elapsed, opens) {
+            return Seen::Refused;
+        }
+        if running & (s == 2) {
+            return Seen::Refused;
+        }
+        running = running | (s == 2);
+        held = held | holds(jobs[k as usize], s, now, elapsed);
+        k += 1;
+    }
+    Seen::Passed(running, held)
+}
+
+// Whether no status and no start stands past the last of n jobs: what is left of them above n is 0.
+fn ends(word: u32, starts: u8, n: u8) -> bool
+    requires { ⌜ n ≤ 8 ⌝ }
+    ensures { λ r. ⌜ Is r (Ends n (state-of word) starts) ⌝ }
+{
+    if (word & 65535) >> (2 * n) != 0 {
+        return false;
+    }
+    if (starts as u16) >> n != 0 {
+        return false;
+    }
+    true
+}
+
+// Whether the statuses are those of the finished state: the lowest n are 3, and the rest 0.
+fn all_done(word: u32, n: u8) -> bool
+    requires { ⌜ n ≤ 8 ⌝ }
+    ensures { λ r. ⌜ r ≡ eqb (word % 2 ^ 16) (4 ^ n - 1) ⌝ }
+{
+    word & 65535 == (1u32 << (2 * n)) - 1
+}
+
+// Whether the tick code is 0 exactly where the tick is not possible, otherwise 1, or 2 with some start.
+fn code_fits(held: bool, starts: u8, code: u8) -> bool
+    ensures { λ r. ⌜ Is r (Code-fits (held ≡ true) starts code) ⌝ }
+{
+    if held {
+        return code == 0;
+    }
+    (code == 1) | ((code == 2) & (starts != 0))
+}
+
+// Whether a row is of good form. The finished state has one form only; any other is told by one pass over the jobs.
+pub fn row_good(jobs: [[u16; 4]; 8], n: u8, word: u32, starts: u8, code: u8) -> bool
+    requires { ⌜ n ≤ 8 ⌝ }
+    ensures { λ r. ⌜ Is r (Good-entry (sheet-of jobs n) (record { word = word; starts = starts; tick = code })) ⌝ }
+{
+    if !ends(word, starts, n) {
+        return false;
+    }
+    if all_done(word, n) {
+        return (word <= 65535) & ((starts == 0) & (code == 1));
+    }
+    let Seen::Passed(running, held) = pass(jobs, n, word, starts, code) else {
+        return false;
+    };
+    if running {
+        if starts != 0 {
+            return false;
+        }
+        return code_fits(held, starts, code);
+    }
+    if elapsed_of(word) != 0 {
+        return false;
+    }
+    code_fits(held, starts, code)
+}

@@ -1,0 +1,56 @@
+-- The loop over blocks is the reading. Assumes nothing.
+use Prim.Native.Nat.{ℕ, suc, _+_, _-_, _%_, _≤_, _<_}
+use native.Mathlib.Omega.{arith}
+use mathlib.Core.Path.{_≡_, refl, sym, _∙_}
+use mathlib.Core.Logic.{inl, inr}
+use mathlib.Core.List.{List, []}
+use lib.ListN.{length, getD}
+use Rattle.sheet.specs.Model.{Sheet}
+use Rattle.sheet.specs.Table.{Entry, at}
+use Rattle.state.specs.Clocks.{sheet-of}
+use Rattle.blocks.specs.Sizes.{block-bytes}
+use Rattle.blocks.specs.BytesLaws.{Each-byte}
+use Rattle.blocks.specs.Fields.{slot-at, job-from}
+use Rattle.blocks.specs.TabLaws.{length-tab}
+use Rattle.form.specs.BlockTest.{Rows-block, Jobs-block, fours}
+use Rattle.table.specs.Reading.{total, block-at, Sized, Reads}
+use Rattle.table.specs.ReadingLaws.{good-below}
+use Rattle.table.specs.BlockRight.{before, jobs-in, sheet-in, jobs-open, opens-jobs, goes-on, went-on}
+use Rattle.table.specs.Judging.{Judged}
+use Rattle.table.specs.declared.judge.Verdict.the-variants.{Bad, Good}
+
+-- the blocks below b are read
+abbrev pub So-far : List ℕ → ℕ → Type 0
+So-far file b = (k : ℕ) × (rows : List Entry) × (b ≡ suc k) × Reads file k (jobs-in (block-at file 0)) rows
+
+pub sheet-is : (block : List ℕ) (js : List (List ℕ)) (n : ℕ) → js ≡ fours block → n ≡ getD block 3 0 → n ≤ 8 → sheet-of js n ≡ jobs-in block
+sheet-is block js n e d h = rw (e, ← d) (sheet-in block n h)
+
+module _ (file : List ℕ) where
+  pub sized-of : length file % block-bytes ≡ 0 → 1024 ≤ length file → length file ≤ 65536 → Sized file
+  sized-of h l s = record { whole = omega arith; long = omega arith; short = omega arith }
+
+  pub length-bad : ¬ (Sized file) → Judged file (Bad 0)
+  length-bad n = inl (n, refl)
+
+  module _ (sized : Sized file) where
+    pub first-bad : ¬ (Jobs-block (total file) (block-at file 0)) → Judged file (Bad 0)
+    first-bad n = inr (sized, omega (arith, sized .long), (λ a h. absurd (omega arith)), λ g. n (opens-jobs file sized g))
+
+    pub first-good : Each-byte file → Jobs-block (total file) (block-at file 0) → So-far file 1
+    first-good small t = (0, [], refl, jobs-open file sized small t)
+
+    module _ (b : ℕ) (s : So-far file b) where
+      abbrev J : Sheet
+      J = jobs-in (block-at file 0)
+
+      pub next-bad : b < total file → ¬ (Rows-block J (total file) b (before file b) (block-at file b)) → Judged file (Bad b)
+      next-bad h n = inr (sized, h, (λ a l. good-below a (s .0) (omega (arith, s .2)) (J, s .1, s .3)), λ g. n (rw (s .2) (went-on sized (s .3) (omega (arith, s .2)) (rw (s .2) at g))))
+
+      pub next-good : Each-byte file → b < total file → Rows-block J (total file) b (before file b) (block-at file b) → So-far file (b + 1)
+      next-good small h t = (b, _, omega arith, rw (← s .2) at (goes-on sized (s .3) (omega (arith, s .2)) small (rw (s .2) at t)))
+
+      pub all-good : total file ≤ b → b ≤ total file → (n : ℕ) → n ≡ getD (block-at file 0) 3 0 → Judged file (Good n)
+      all-good h l n e =
+          let d : total file - 1 ≡ s .0 = omega (arith, s .2) in
+          (J, s .1, (sized, rw d (s .3)), length-tab (getD (block-at file 0) 3 0) (λ m. job-from (block-at file 0) (slot-at m)) ∙ sym e)

@@ -1,0 +1,17 @@
+-- A table file read.
+-- A reader believes these:
+pub mod Reading
+pub mod Replies
+pub mod Judging
+pub mod Places
+-- What follows:
+pub mod ReadingLaws
+pub mod RoundTrip
+pub mod BlockRight
+pub mod FileRight
+pub mod Decide
+pub mod OneReading
+pub mod PlaceLaws
+pub mod RowLaws
+pub mod ListingLaws
+pub mod LeewayLaws

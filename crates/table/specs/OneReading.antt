@@ -1,0 +1,63 @@
+-- Every list of bytes has a reading, and one only (`says-one`). Assumes nothing.
+use Prim.Native.Nat.{ℕ, zero, suc, _+_, _-_, _%_, _≤_}
+use native.Mathlib.Omega.{arith}
+use native.Mathlib.Decide.{decLe, ℕ-discrete}
+use mathlib.Core.Path.{_≡_, refl, sym, ap, _∙_}
+use mathlib.Core.List.{List}
+use lib.ListN.{length, getD}
+use Rattle.blocks.specs.Sizes.{block-bytes}
+use Rattle.blocks.specs.BytesLaws.{Each-byte}
+use Rattle.form.specs.BlockTest.{Rows-block, Jobs-block}
+use Rattle.table.specs.Reading.{total, block-at, Sized, Reading, good, bad, Says}
+use Rattle.table.specs.ReadingLaws.{says-one}
+use Rattle.table.specs.BlockRight.{before, jobs-in}
+use Rattle.table.specs.FileRight.{So-far, sized-of, length-bad, first-bad, first-good, next-bad, next-good, all-good}
+use Rattle.table.specs.Decide.{dec-bytes, dec-rows-block, dec-jobs-block}
+use Rattle.table.specs.Replies.{Answers}
+
+module _ (file : List ℕ) (small : Each-byte file) where
+  abbrev Read : Type 0
+  Read = (x : Reading) × Says file x
+
+  rest : Sized file → (m b : ℕ) → b + m ≡ total file → So-far file b → Read
+  rest sized zero b e s =
+      let g = all-good file sized b s (omega arith) (omega arith) (getD (block-at file 0) 3 0) refl in
+      (good (g .0) (g .1), g .2)
+  rest sized (suc m) b e s = go (dec-rows-block (block-at file b) (jobs-in (block-at file 0)) (total file) b (before file b)) (λ t. rest sized m (b + 1) (omega arith) t)
+    where
+      go : Dec (Rows-block (jobs-in (block-at file 0)) (total file) b (before file b) (block-at file b)) → (So-far file (b + 1) → Read) → Read
+      go (yes t) f = f (next-good file sized b s small (omega arith) t)
+      go (no n) f = (bad b, next-bad file sized b s (omega arith) n)
+
+  first : Sized file → Dec (Jobs-block (total file) (block-at file 0)) → Read
+  first sized (yes t) = rest sized (total file - 1) 1 (omega (arith, sized .long)) (first-good file sized small t)
+  first sized (no n) = (bad 0, first-bad file sized n)
+
+  pub says-some : Read
+  says-some = go (ℕ-discrete (length file % block-bytes) 0) (decLe 1024 (length file)) (decLe (length file) 65536)
+    where
+      go : Dec (length file % block-bytes ≡ 0) → Dec (1024 ≤ length file) → Dec (length file ≤ 65536) → Read
+      go (yes a) (yes b) (yes c) = let s = sized-of file a b c in first s (dec-jobs-block (block-at file 0) (total file))
+      go (no n) b c = (bad 0, length-bad file (λ s. n (omega (arith, s .whole))))
+      go (yes a) (no n) c = (bad 0, length-bad file (λ s. n (omega (arith, s .whole, s .long))))
+      go (yes a) (yes b) (no n) = (bad 0, length-bad file (λ s. n (omega (arith, s .whole, s .short))))
+
+-- what a file says (of a list that is no list of bytes: nothing of interest)
+unfoldable pub reading : List ℕ → Reading
+reading file = elim (dec-bytes file) [ yes small ↦ says-some file small .0 | no n ↦ bad 0 ]
+
+pub says-reading : (file : List ℕ) → Each-byte file → Says file (reading file)
+unfolding reading
+says-reading file small = go (dec-bytes file)
+  where
+    go : (d : Dec (Each-byte file)) → Says file (elim d [ yes s ↦ says-some file s .0 | no n ↦ bad 0 ])
+    go (yes s) = says-some file s .1
+    go (no n) = absurd (n small)
+
+-- a reply that answers a file is the reply to its reading
+pub answer-is : {R : Type 0} (file : List ℕ) → Each-byte file → (f : Reading → R) (r : R) → Answers file f r → r ≡ f (reading file)
+answer-is file small f r a = a .2 ∙ ap f (says-one file (a .0) (reading file) (a .1) (says-reading file small))
+
+-- LAW: two replies that meet one contract are equal
+pub answers-one : {R : Type 0} (file : List ℕ) (f : Reading → R) (r r′ : R) → Answers file f r → Answers file f r′ → r ≡ r′
+answers-one file f r r′ a b = a .2 ∙ (ap f (says-one file (a .0) (b .0) (a .1) (b .1)) ∙ sym (b .2))

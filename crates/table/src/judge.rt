@@ -1,0 +1,74 @@
+// The form of a file: its lowest bad block, or none.
+ghost use mathlib.Core.Path.{_≡_};
+ghost use Prim.Native.Nat.{_≤_, _<_, _*_};
+ghost use lib.ListN.{length};
+ghost use Rattle.plant.specs.Reflect.{Is};
+ghost use Rattle.state.specs.Clocks.{sheet-of};
+ghost use Rattle.blocks.specs.Sizes.{block-bytes, most-blocks, most-jobs};
+ghost use Rattle.form.specs.BlockTest.{Rows-block};
+ghost use Rattle.table.specs.Reading.{block-at};
+ghost use Rattle.table.specs.BlockRight.{before};
+ghost use Rattle.table.specs.Judging.{Judged};
+use blocks::numbers::read32;
+use blocks::sizes::BLOCK;
+use blocks::sizes::HEADER;
+use blocks::sizes::SLOT;
+use blocks::sizes::SLOTS;
+use form::block::jobs_good;
+use form::block::jobs_of;
+use form::block::rows_follow;
+
+// The lowest bad block, or the number of jobs of a good file.
+pub enum Verdict {
+    Bad(u32),
+    Good(u8),
+}
+
+// The fewest and the most bytes of a file.
+const FEWEST: usize = 2 * BLOCK;
+
+const MOST: usize = 128 * BLOCK;
+
+// Whether block b, of rows, is good after the block before. For block 1 the last word before is read and not asked.
+fn rows_good(file: &[u8], b: usize, total: usize, jobs: [[u16; 4]; 8], n: u8) -> bool
+    requires { ⌜ (1 ≤ b) × ((b < total) × ((total ≤ most-blocks) × (length (now file) ≡ block-bytes * total))) ⌝ }
+    requires { ⌜ n ≤ most-jobs ⌝ }
+    ensures { λ r. ⌜ Is r (Rows-block (sheet-of jobs n) total b (before (now (file .entry)) b) (block-at (now (file .entry)) b)) ⌝ }
+{
+    let at = BLOCK * b;
+    let end = at + BLOCK;
+    let last = read32(file, BLOCK * (b - 1) + (HEADER + SLOT * (SLOTS - 1)));
+    let part = &file[at..end];
+    rows_follow(part, b as u16, total as u16, last, jobs, n)
+}
+
+// The form of a file: the first block that its test refuses, for all before it passed.
+pub fn judge(file: &[u8]) -> Verdict
+    ensures { λ r. ⌜ Judged (now (file .entry)) r ⌝ }
+{
+    let bytes = file.len();
+    if bytes % BLOCK != 0 {
+        return Verdict::Bad(0);
+    }
+    if bytes < FEWEST {
+        return Verdict::Bad(0);
+    }
+    if MOST < bytes {
+        return Verdict::Bad(0);
+    }
+    let total = bytes / BLOCK;
+    let first = &file[..BLOCK];
+    if !jobs_good(first, total as u16) {
+        return Verdict::Bad(0);
+    }
+    let n = first[3];
+    let jobs = jobs_of(first);
+    let mut b: usize = 1;
+    while b < total {
+        if !rows_good(file, b, total, jobs, n) {
+            return Verdict::Bad(b as u32);
+        }
+        b += 1;
+    }
+    Verdict::Good(n)
+}

@@ -1,0 +1,69 @@
+// The row of a word.
+ghost use mathlib.Core.Path.{_≡_};
+ghost use Prim.Native.Nat.{_≤_, _<_, _+_};
+ghost use lib.ListN.{length};
+ghost use Rattle.blocks.specs.Sizes.{slot-bytes, most-rows};
+ghost use Rattle.blocks.specs.Fields.{row-from};
+ghost use Rattle.table.specs.Replies.{Answers, told, row-reply};
+ghost use Rattle.table.specs.OneReading.{reading};
+ghost use Rattle.table.specs.Places.{place, Good-file};
+use crate::judge::Verdict;
+use crate::judge::judge;
+use crate::place::Found;
+use crate::place::find;
+use crate::place::place_of;
+
+// A row's answer: number and detail, and on 0 the byte of starts and the tick code.
+#[repr(C)]
+pub struct RowReply {
+    pub number: u32,
+    pub detail: u32,
+    pub starts: u8,
+    pub tick: u8,
+}
+
+// Row i, counted from 0, as a reply.
+pub(crate) fn row_at(file: &[u8], i: usize) -> RowReply
+    requires { ⌜ (i < most-rows) × (place i + slot-bytes ≤ length (now file)) ⌝ }
+    ensures { λ r. ⌜ r ≡ told (row-from (now (file .entry)) (place i)) ⌝ }
+{
+    let at = place_of(i);
+    RowReply {
+        number: 0,
+        detail: 0,
+        starts: file[at + 4],
+        tick: file[at + 5],
+    }
+}
+
+// The row with a word, in a good file.
+fn row_in(file: &[u8], word: u32) -> RowReply
+    requires { ⌜ Good-file (now file) ⌝ }
+    ensures { λ r. ⌜ Answers (now (file .entry)) (row-reply word) r ⌝ }
+{
+    let Found::At(i) = find(file, word) else {
+        return RowReply {
+            number: 8,
+            detail: 0,
+            starts: 0,
+            tick: 0,
+        };
+    };
+    row_at(file, i)
+}
+
+// Starts and tick code for a word, of any bytes: the file is judged first, and of a good one the row is looked up.
+pub fn row(file: &[u8], word: u32) -> RowReply
+    ensures { λ r. ⌜ r ≡ row-reply word (reading (now (file .entry))) ⌝ }
+{
+    let verdict = judge(file);
+    match verdict {
+        Verdict::Bad(b) => RowReply {
+            number: 7,
+            detail: b,
+            starts: 0,
+            tick: 0,
+        },
+        Verdict::Good(_) => row_in(file, word),
+    }
+}
