@@ -1,0 +1,10 @@
+-- The printing program's text, in and out.
+-- A reader believes these:
+pub mod Digits
+pub mod Lines
+pub mod SheetText
+pub mod Printed
+-- What follows:
+pub mod DigitsLaws
+pub mod LineLaws
+pub mod PrintedLaws

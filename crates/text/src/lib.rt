@@ -1,0 +1,3 @@
+// The printing program's text: a sheet read (specs/SheetText.antt), lines printed into a lent slice (specs/Lines.antt).
+pub mod print;
+pub mod read;
