@@ -1,6 +1,7 @@
 -- The printing program's text, in and out.
 -- A reader believes these:
 pub mod Digits
+pub mod Words
 pub mod Lines
 pub mod SheetText
 pub mod Printed
@@ -8,3 +9,4 @@ pub mod Printed
 pub mod DigitsLaws
 pub mod LineLaws
 pub mod PrintedLaws
+pub mod Example

@@ -1,5 +1,5 @@
 -- What the printing program prints (01, "The printing program"): the header, a line per row, the refusal.
-use Prim.Native.Nat.{ℕ, zero, suc, _-_, _/_, _%_, _^_}
+use Prim.Native.Nat.{ℕ, zero, suc, _+_, _-_, _/_, _%_, _^_}
 use mathlib.Core.Bool.{cond}
 use mathlib.Core.List.{List, [], _∷_, _++_, map}
 use lib.ListN.{length, take}
@@ -8,6 +8,7 @@ use Rattle.sheet.specs.Model.{State}
 use Rattle.sheet.specs.Table.{Entry}
 use Rattle.sheet.specs.Form.{state-of}
 use Rattle.blocks.specs.File.{joined}
+use Rattle.text.specs.Words.{bytes}
 use Rattle.text.specs.Digits.{digit, decimal}
 
 -- Lines ---------------------------------------------------------------------------------------------------------------
@@ -41,20 +42,20 @@ jobs-text (suc k) starts = jobs-text k starts ++ job-text starts (suc k)
 
 -- "or `-` where there are none"
 abbrev pub or-dash : List ℕ → List ℕ
-or-dash [] = 45 ∷ []
+or-dash [] = bytes "-"
 or-dash (c ∷ l) = c ∷ l
 
 -- "`none`, `open` or `held` for code 0, 1, 2"
 abbrev pub tick-word : ℕ → List ℕ
-tick-word zero = 110 ∷ 111 ∷ 110 ∷ 101 ∷ []
-tick-word (suc zero) = 111 ∷ 112 ∷ 101 ∷ 110 ∷ []
-tick-word (suc (suc _)) = 104 ∷ 101 ∷ 108 ∷ 100 ∷ []
+tick-word zero = bytes "none"
+tick-word (suc zero) = bytes "open"
+tick-word (suc (suc _)) = bytes "held"
 
 -- The lines -----------------------------------------------------------------------------------------------------------
 
 -- "one header (`jobs`, their number n, `states`, the number of rows)"
 abbrev pub header-line : ℕ → ℕ → List ℕ
-header-line n rows = line ((106 ∷ 111 ∷ 98 ∷ 115 ∷ []) ∷ decimal n ∷ (115 ∷ 116 ∷ 97 ∷ 116 ∷ 101 ∷ 115 ∷ []) ∷ decimal rows ∷ [])
+header-line n rows = line (bytes "jobs" ∷ decimal n ∷ bytes "states" ∷ decimal rows ∷ [])
 
 -- "now, elapsed, the n statuses .., allowed job numbers .., and `none`, `open` or `held`"
 abbrev pub row-line : ℕ → Entry → List ℕ
@@ -73,8 +74,14 @@ listing-text n rows = header-line n (length rows) ++ joined (map (row-line n) ro
 
 -- "A refusal prints `refused`, number, detail."
 abbrev pub refusal-text : ℕ → ℕ → List ℕ
-refusal-text number detail = line ((114 ∷ 101 ∷ 102 ∷ 117 ∷ 115 ∷ 101 ∷ 100 ∷ []) ∷ decimal number ∷ decimal detail ∷ [])
+refusal-text number detail = line (bytes "refused" ∷ decimal number ∷ decimal detail ∷ [])
 
--- no line is longer: 3 + 1 + 3 + 1 + 8 + 1 + 8 + 1 + 4 + 1 bytes of a row
+-- no line is longer: two clocks of three digits, eight statuses and three spaces of a row; eight jobs, a space, four letters and the end
+abbrev pub state-bytes : ℕ
+state-bytes = 17
+
+abbrev pub marks-bytes : ℕ
+marks-bytes = 14
+
 abbrev pub line-bytes : ℕ
-line-bytes = 31
+line-bytes = state-bytes + marks-bytes
