@@ -6,6 +6,11 @@ pub mod Lines
 pub mod SheetText
 pub mod Printed
 -- What follows:
+pub mod Fields
+pub mod FieldLaws
+pub mod RunLaws
+pub mod GroupLaws
+pub mod ReadLaws
 pub mod DigitsLaws
 pub mod LineLaws
 pub mod PrintedLaws

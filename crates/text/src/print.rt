@@ -1,5 +1,4 @@
 // Lines printed into a lent slice: each function puts its bytes at a place and answers the place behind them.
-ghost use mathlib.Core.Path.{_≡_};
 ghost use mathlib.Core.List.{[], _∷_, map};
 ghost use Prim.Native.Nat.{_+_, _≤_};
 ghost use lib.ListN.{length, take};
@@ -10,11 +9,9 @@ ghost use Rattle.text.specs.Digits.{digit, decimal};
 ghost use Rattle.text.specs.Lines.{state-bytes, marks-bytes, line-bytes, header-line, row-line, refusal-text, job-text, jobs-text, or-dash, tick-word};
 ghost use Rattle.text.specs.LineLaws.{pair-line, state-part, marks-part};
 ghost use Rattle.text.specs.Printed.{Printed};
+use crate::bytes::ZERO;
 use state::bits::has;
 use state::word::state_of;
-
-// The digit 0.
-const ZERO: u8 = 48;
 
 // Puts bytes and answers the place behind them.
 fn put(out: &mut [u8], at: usize, bytes: &[u8]) -> usize
