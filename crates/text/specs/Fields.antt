@@ -7,7 +7,7 @@ use lib.ListN.{length, getD, take, drop, replicate}
 use lib.Dec.{eqb}
 use Rattle.text.specs.Digits.{Digit, value}
 use Rattle.text.specs.Lines.{space, line-end}
-use Rattle.text.specs.SheetText.{Number}
+use Rattle.text.specs.SheetText.{Number, most-numbers}
 use Rattle.text.specs.declared.read.Found.{Found}
 use Rattle.text.specs.declared.read.Found.the-variants.{Digits, Nothing}
 
@@ -53,7 +53,7 @@ pub record So-far (text numbers : List ℕ) (count at : ℕ) : Type 0 where
   pub read : List (List ℕ)
   pub each : Numbers read
   pub many : length read ≡ count
-  pub few : count ≤ 32
+  pub few : count ≤ most-numbers
   pub within : at ≤ length text
   pub front : text ≡ run 0 read ++ drop at text
-  pub held : numbers ≡ map value read ++ replicate (32 - count) 0
+  pub held : numbers ≡ map value read ++ replicate (most-numbers - count) 0

@@ -1,14 +1,15 @@
 -- Lines of four numbers are a run of numbers, and a run of four times so many is such lines. Assumes nothing.
-use Prim.Native.Nat.{ℕ, zero, suc, _*_, _%_}
+use Prim.Native.Nat.{ℕ, zero, suc, _*_, _%_, _≤_}
 use native.Mathlib.Omega.{arith}
-use mathlib.Core.Path.{_≡_, refl, sym, ap, subst}
+use mathlib.Core.Path.{_≡_, refl, sym, ap, subst, _∙_}
 use mathlib.Core.Logic.{_⊎_, inl, inr}
 use mathlib.Core.List.{List, [], _∷_, map, append-assoc, List·Memᴰ, List·Memᴰ·head, List·Memᴰ·tail, List·Memᴰ·not-nil, List·Memᴰ·cases-cons}
 use lib.ListN.{length}
+use Rattle.blocks.specs.Sizes.{most-jobs}
 use Rattle.blocks.specs.File.{joined}
 use Rattle.text.specs.Digits.{value}
 use Rattle.text.specs.Lines.{line}
-use Rattle.text.specs.SheetText.{Number, Four, fields}
+use Rattle.text.specs.SheetText.{Number, Four, fields, Spells}
 use Rattle.text.specs.Fields.{run, Numbers}
 use Rattle.text.specs.RunLaws.{ending-line, ending-space}
 
@@ -100,4 +101,17 @@ grouped (suc n) (a ∷ b ∷ w ∷ d ∷ m) h e = one (grouped n m (omega arith)
       many = ap suc (r .many);
       each = λ f j. each (r .lines) (r .each) f (List·Memᴰ·cases-cons j);
       same = ap (λ (l : List (List ℕ)). a ∷ b ∷ w ∷ d ∷ l) (r .same);
+    }
+
+-- numbers, four to a line, 1 to 8 lines
+pub run-spells : (text : List ℕ) (m : List (List ℕ)) (n : ℕ) → text ≡ run 0 m → length m ≡ 4 * n → 1 ≤ n → n ≤ most-jobs → Numbers m → Spells text (map value m)
+run-spells text m n e l h k d =
+    let g = grouped n m l d in
+    record {
+      lines = g .lines;
+      some = omega (arith, g .many);
+      few = omega (arith, g .many);
+      each = g .each;
+      spelled = e ∙ (ap (run 0) (sym (g .same)) ∙ sym (flat-run 0 (omega arith) (g .lines)));
+      values = ap (map value) (sym (g .same)) ∙ sym (flat-values (g .lines));
     }

@@ -5,13 +5,15 @@ pub mod Words
 pub mod Lines
 pub mod SheetText
 pub mod Printed
--- What follows:
+-- What the code's parts read and print:
 pub mod Fields
+pub mod Parts
+-- What follows:
+pub mod DigitsLaws
 pub mod FieldLaws
 pub mod RunLaws
 pub mod GroupLaws
 pub mod ReadLaws
-pub mod DigitsLaws
 pub mod LineLaws
 pub mod PrintedLaws
 pub mod Example

@@ -15,24 +15,15 @@ use Rattle.sheet.specs.Model.{State}
 use Rattle.sheet.specs.Table.{Entry}
 use Rattle.sheet.specs.Form.{digits, state-of}
 use Rattle.sheet.specs.WordLaws.{length-digits, digits-lt}
+use Rattle.blocks.specs.Sizes.{most-jobs}
 use Rattle.text.specs.Digits.{digit, decimal}
-use Rattle.text.specs.Lines.{space, line-end, line, statuses-text, job-text, jobs-text, or-dash, tick-word, header-line, row-line, refusal-text, state-bytes, marks-bytes, line-bytes}
+use Rattle.text.specs.Lines.{line, statuses-text, job-text, jobs-text, or-dash, tick-word, header-line, row-line, refusal-text, line-bytes}
+use Rattle.text.specs.Parts.{pair-line, state-part, marks-part, state-bytes, marks-bytes}
 use Rattle.text.specs.DigitsLaws.{length-8, length-32}
-
--- two numbers, each behind its words
-abbrev pub pair-line : List ℕ → ℕ → List ℕ → ℕ → List ℕ
-pair-line first a second b = first ++ (decimal a ++ (second ++ (decimal b ++ (line-end ∷ []))))
 
 pub pair-length : (first : List ℕ) (a : ℕ) (second : List ℕ) (b : ℕ)
     → length (pair-line first a second b) ≡ length first + (length (decimal a) + (length second + (length (decimal b) + 1)))
 pair-length first a second b = simp length-append
-
--- a row's state, with a space behind each field, and its marks
-abbrev pub state-part : ℕ → State → List ℕ
-state-part n q = decimal (q .now) ++ (space ∷ (decimal (q .elapsed) ++ (space ∷ (statuses-text n q ++ (space ∷ [])))))
-
-abbrev pub marks-part : ℕ → ℕ → ℕ → List ℕ
-marks-part n starts tick = or-dash (jobs-text n starts) ++ (space ∷ (tick-word tick ++ (line-end ∷ [])))
 
 pub row-parts : (n : ℕ) (e : Entry) → row-line n e ≡ state-part n (state-of (e .word)) ++ marks-part n (e .starts) (e .tick)
 unfolding line
@@ -101,7 +92,7 @@ module _ (w : ℕ) (fits : w < 2 ^ 32) (q : State) (e : q ≡ state-of w) where
   pub known-statuses : (k : ℕ) → getD (q .statuses) k 0 ≤ 3
   known-statuses k = subst (λ (r : State). getD (r .statuses) k 0 ≤ 3) (sym e) (omega (arith, digits-lt 8 w k))
 
-  pub so-many-statuses : (n : ℕ) → n ≤ 8 → length (statuses-text n q) ≡ n
+  pub so-many-statuses : (n : ℕ) → n ≤ most-jobs → length (statuses-text n q) ≡ n
   so-many-statuses n h = subst (λ (r : State). length (statuses-text n r) ≡ n) (sym e) (statuses-length (digits 8 w) n (omega (arith, length-digits 8 w)))
 
 -- No line is longer than `line-bytes` --------------------------------------------------------------------------------
@@ -110,14 +101,14 @@ pub header-length : (n rows : ℕ) → n < 2 ^ 8 → rows < 2 ^ 32 → length (h
 unfolding line
 header-length n rows h k = simp length-append (omega (arith, length-8 n h, length-32 rows k))
 
-pub state-length : (n w : ℕ) → n ≤ 8 → w < 2 ^ 32 → length (state-part n (state-of w)) ≤ state-bytes
+pub state-length : (n w : ℕ) → n ≤ most-jobs → w < 2 ^ 32 → length (state-part n (state-of w)) ≤ state-bytes
 state-length n w h k =
     simp length-append (omega (arith, now-length w k (state-of w) refl, elapsed-length w k (state-of w) refl, so-many-statuses w k (state-of w) refl n h))
 
-pub starts-length : (n starts : ℕ) → n ≤ 8 → length (or-dash (jobs-text n starts)) ≤ 8
-starts-length n starts h = dash-length (jobs-text n starts) 8 (omega arith) (omega (arith, jobs-length starts n))
+pub starts-length : (n starts : ℕ) → n ≤ most-jobs → length (or-dash (jobs-text n starts)) ≤ most-jobs
+starts-length n starts h = dash-length (jobs-text n starts) most-jobs (omega arith) (omega (arith, jobs-length starts n))
 
-pub row-length : (n : ℕ) (e : Entry) → n ≤ 8 → e .word < 2 ^ 32 → length (row-line n e) ≤ line-bytes
+pub row-length : (n : ℕ) (e : Entry) → n ≤ most-jobs → e .word < 2 ^ 32 → length (row-line n e) ≤ line-bytes
 row-length n e h k =
     rw (row-parts n e, length-append (state-part n (state-of (e .word))) (marks-part n (e .starts) (e .tick)))
     (let m : length (marks-part n (e .starts) (e .tick)) ≤ marks-bytes = simp length-append (omega (arith, starts-length n (e .starts) h, tick-length (e .tick))) in

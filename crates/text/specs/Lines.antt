@@ -1,5 +1,5 @@
 -- What the printing program prints (01, "The printing program"): the header, a line per row, the refusal.
-use Prim.Native.Nat.{ℕ, zero, suc, _+_, _-_, _/_, _%_, _^_}
+use Prim.Native.Nat.{ℕ, zero, suc, _-_, _/_, _%_, _^_}
 use mathlib.Core.Bool.{cond}
 use mathlib.Core.List.{List, [], _∷_, _++_, map}
 use lib.ListN.{length, take}
@@ -76,12 +76,6 @@ listing-text n rows = header-line n (length rows) ++ joined (map (row-line n) ro
 abbrev pub refusal-text : ℕ → ℕ → List ℕ
 refusal-text number detail = line (bytes "refused" ∷ decimal number ∷ decimal detail ∷ [])
 
--- no line is longer: two clocks of three digits, eight statuses and three spaces of a row; eight jobs, a space, four letters and the end
-abbrev pub state-bytes : ℕ
-state-bytes = 17
-
-abbrev pub marks-bytes : ℕ
-marks-bytes = 14
-
+-- no line is longer: 3 + 1 + 3 + 1 + 8 + 1 + 8 + 1 + 4 + 1 bytes of a row
 abbrev pub line-bytes : ℕ
-line-bytes = state-bytes + marks-bytes
+line-bytes = 31

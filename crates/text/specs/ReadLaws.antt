@@ -9,11 +9,12 @@ use mathlib.Core.Bool.{true}
 use mathlib.Core.List.{List, [], _∷_, _++_, map, map-append, append-assoc, append-nil}
 use lib.ListN.{length, take, drop, set, replicate, length-append, length-drop, length-map, drop-of-length-le}
 use lib.Seq.{set-at, drop-drop}
+use Rattle.blocks.specs.Sizes.{most-jobs}
 use Rattle.text.specs.Digits.{value}
-use Rattle.text.specs.SheetText.{Number, Spells, taken, Reads}
+use Rattle.text.specs.SheetText.{Number, Spells, most-numbers, taken, Reads}
 use Rattle.text.specs.Fields.{Fronted, ending, run, Numbers, So-far}
 use Rattle.text.specs.RunLaws.{goes-on, run-snoc}
-use Rattle.text.specs.GroupLaws.{flat, flat-length, flat-run, flat-values, flat-each, grouped}
+use Rattle.text.specs.GroupLaws.{flat, flat-length, flat-run, flat-values, flat-each, run-spells}
 use Rattle.text.specs.declared.read.Parsed.{Parsed}
 
 -- a run of some numbers is not empty
@@ -52,7 +53,7 @@ reads-one text r s (inr x) (inr y) = x .1 ∙ sym (y .1)
 
 -- Number after number -------------------------------------------------------------------------------------------------
 
-pub so-far-none : (text : List ℕ) → So-far text (replicate 32 0) 0 0
+pub so-far-none : (text : List ℕ) → So-far text (replicate most-numbers 0) 0 0
 unfolding run
 so-far-none text = record { read = []; each = tt; many = refl; few = omega arith; within = omega arith; front = refl; held = refl }
 
@@ -61,7 +62,7 @@ numbers-snoc [] s e n = (n, tt)
 numbers-snoc (t ∷ l) s e n = (e .0, numbers-snoc l s (e .1) n)
 
 module _ (text numbers : List ℕ) (count at : ℕ) (p : So-far text numbers count at) where
-  pub so-far-more : (k v : ℕ) → count < 32 → Fronted (ending count) (drop at text) k v → So-far text (set numbers count v) (count + 1) (at + (k + 1))
+  pub so-far-more : (k v : ℕ) → count < most-numbers → Fronted (ending count) (drop at text) k v → So-far text (set numbers count v) (count + 1) (at + (k + 1))
   so-far-more k v h f = record {
     read = p .read ++ (s ∷ []);
     each = numbers-snoc (p .read) s (p .each) (f .number);
@@ -81,11 +82,11 @@ module _ (text numbers : List ℕ) (count at : ℕ) (p : So-far text numbers cou
       behind : drop at text ≡ (s ++ (ending (0 + length (p .read)) ∷ [])) ++ drop (at + (k + 1)) text
       behind = f .ends ∙ (ap (λ (x : List ℕ). s ++ (ending count ∷ x)) (drop-drop (suc k) at text) ∙ (rw (place, add-one k) (sym (append-assoc s (ending count ∷ []) (drop (at + suc k) text)))))
 
-      stored : set (map value (p .read) ++ replicate (32 - count) 0) count v ≡ map value (p .read ++ (s ∷ [])) ++ replicate (32 - (count + 1)) 0
+      stored : set (map value (p .read) ++ replicate (most-numbers - count) 0) count v ≡ map value (p .read ++ (s ∷ [])) ++ replicate (most-numbers - (count + 1)) 0
       stored =
-          let e : 32 - count ≡ suc (32 - (count + 1)) = omega arith in
+          let e : most-numbers - count ≡ suc (most-numbers - (count + 1)) = omega arith in
           rw (e, map-append value (p .read) (s ∷ []), ← f .worth)
-          (set-at (map value (p .read)) 0 (replicate (32 - (count + 1)) 0) v count (length-map (p .read) value ∙ p .many) ∙ sym (append-assoc (map value (p .read)) (v ∷ []) (replicate (32 - (count + 1)) 0)))
+          (set-at (map value (p .read)) 0 (replicate (most-numbers - (count + 1)) 0) v count (length-map (p .read) value ∙ p .many) ∙ sym (append-assoc (map value (p .read)) (v ∷ []) (replicate (most-numbers - (count + 1)) 0)))
 
   -- What a sheet would say of the rest: numbers, and four to a line in all.
   record Rest (n : ℕ) : Type 0 where
@@ -94,7 +95,7 @@ module _ (text numbers : List ℕ) (count at : ℕ) (p : So-far text numbers cou
     follows : drop at text ≡ run count others
     many : count + length others ≡ 4 * n
     some : 1 ≤ n
-    few : n ≤ 8
+    few : n ≤ most-jobs
 
   rest-of : (ns : List ℕ) → Spells text ns → (n : ℕ) × Rest n
   rest-of ns q =
@@ -122,11 +123,11 @@ module _ (text numbers : List ℕ) (count at : ℕ) (p : So-far text numbers cou
       go (s ∷ l) e g = f s (run (suc count) l) (e .0) g
 
   -- more is there behind eight lines
-  pub so-far-full : at < length text → 32 ≤ count → (ns : List ℕ) → ¬ (Spells text ns)
+  pub so-far-full : at < length text → most-numbers ≤ count → (ns : List ℕ) → ¬ (Spells text ns)
   unfolding run
   so-far-full h f ns q = let r = rest-of ns q .1 in go (r .others) (r .follows) (r .many) (r .few)
     where
-      go : (l : List (List ℕ)) → drop at text ≡ run count l → count + length l ≡ 4 * rest-of ns q .0 → rest-of ns q .0 ≤ 8 → ⊥
+      go : (l : List (List ℕ)) → drop at text ≡ run count l → count + length l ≡ 4 * rest-of ns q .0 → rest-of ns q .0 ≤ most-jobs → ⊥
       go [] g m k = omega (arith, ap length g, length-drop at text)
       go (s ∷ l) g m k = omega arith
 
@@ -144,20 +145,9 @@ module _ (text numbers : List ℕ) (count at : ℕ) (p : So-far text numbers cou
   so-far-whole h k f =
       let e : drop at text ≡ [] = drop-of-length-le text {i = at} h in
       let n : length ns ≡ count = length-map (p .read) value ∙ p .many in
-      let c : numbers ≡ ns ++ replicate (32 - length ns) 0 = rw n (p .held) in
-      inl (ns, spelt (p .front ∙ (ap (λ (x : List ℕ). run 0 (p .read) ++ x) e ∙ append-nil (run 0 (p .read)))), (λ i. record { ok = true; count = sym n i; numbers = c i }))
+      let c : numbers ≡ ns ++ replicate (most-numbers - length ns) 0 = rw n (p .held) in
+      let t : text ≡ run 0 (p .read) = p .front ∙ (ap (λ (x : List ℕ). run 0 (p .read) ++ x) e ∙ append-nil (run 0 (p .read))) in
+      inl (ns, run-spells text (p .read) (count / 4) t (p .many ∙ omega arith) (omega arith) (omega (arith, p .few)) (p .each), (λ i. record { ok = true; count = sym n i; numbers = c i }))
     where
       ns : List ℕ
       ns = map value (p .read)
-
-      spelt : text ≡ run 0 (p .read) → Spells text ns
-      spelt e =
-          let g = grouped (count / 4) (p .read) (p .many ∙ omega arith) (p .each) in
-          record {
-            lines = g .lines;
-            some = omega (arith, g .many);
-            few = omega (arith, g .many, p .few);
-            each = g .each;
-            spelled = e ∙ (ap (run 0) (sym (g .same)) ∙ sym (flat-run 0 (omega arith) (g .lines)));
-            values = ap (map value) (sym (g .same)) ∙ sym (flat-values (g .lines));
-          }

@@ -5,9 +5,10 @@ ghost use lib.ListN.{length, take};
 ghost use Rattle.plant.specs.Search.{In};
 ghost use Rattle.sheet.specs.Form.{state-of};
 ghost use Rattle.state.specs.Clocks.{Known};
+ghost use Rattle.blocks.specs.Sizes.{most-jobs};
 ghost use Rattle.text.specs.Digits.{digit, decimal};
-ghost use Rattle.text.specs.Lines.{state-bytes, marks-bytes, line-bytes, header-line, row-line, refusal-text, job-text, jobs-text, or-dash, tick-word};
-ghost use Rattle.text.specs.LineLaws.{pair-line, state-part, marks-part};
+ghost use Rattle.text.specs.Lines.{line-bytes, header-line, row-line, refusal-text, job-text, jobs-text, or-dash, tick-word};
+ghost use Rattle.text.specs.Parts.{pair-line, state-part, marks-part, state-bytes, marks-bytes};
 ghost use Rattle.text.specs.Printed.{Printed};
 use crate::bytes::ZERO;
 use state::bits::has;
@@ -73,7 +74,7 @@ pub fn put_refusal(out: &mut [u8], at: usize, number: u32, detail: u32) -> usize
 
 // Prints the statuses of the first n jobs, a digit each.
 fn put_statuses(out: &mut [u8], at: usize, statuses: [u8; 8], n: u8) -> usize
-    requires { ⌜ (n ≤ 8) × (Known statuses × (at + n ≤ length (now out))) ⌝ }
+    requires { ⌜ (n ≤ most-jobs) × (Known statuses × (at + n ≤ length (now out))) ⌝ }
     ensures { λ r. ⌜ Printed (now (out .entry)) at (map digit (take n statuses)) r (now (out .exit)) ⌝ }
 {
     let many = n as usize;
@@ -88,7 +89,7 @@ fn put_statuses(out: &mut [u8], at: usize, statuses: [u8; 8], n: u8) -> usize
 
 // Prints job k, if the byte of starts has it.
 fn put_job(out: &mut [u8], at: usize, starts: u8, k: u8) -> usize
-    requires { ⌜ In 8 k × (at + 1 ≤ length (now out)) ⌝ }
+    requires { ⌜ In most-jobs k × (at + 1 ≤ length (now out)) ⌝ }
     ensures { λ r. ⌜ Printed (now (out .entry)) at (job-text starts k) r (now (out .exit)) ⌝ }
 {
     if has(starts, k) {
@@ -99,7 +100,7 @@ fn put_job(out: &mut [u8], at: usize, starts: u8, k: u8) -> usize
 
 // Prints the jobs of 1 to n that the byte of starts has, in this order.
 fn put_jobs(out: &mut [u8], at: usize, starts: u8, n: u8) -> usize
-    requires { ⌜ (n ≤ 8) × (at + n ≤ length (now out)) ⌝ }
+    requires { ⌜ (n ≤ most-jobs) × (at + n ≤ length (now out)) ⌝ }
     ensures { λ r. ⌜ Printed (now (out .entry)) at (jobs-text n starts) r (now (out .exit)) ⌝ }
 {
     let mut next = at;
@@ -113,7 +114,7 @@ fn put_jobs(out: &mut [u8], at: usize, starts: u8, n: u8) -> usize
 
 // Prints the allowed jobs of 1 to n, or `-` where none was printed.
 fn put_starts(out: &mut [u8], at: usize, starts: u8, n: u8) -> usize
-    requires { ⌜ (n ≤ 8) × (at + 8 ≤ length (now out)) ⌝ }
+    requires { ⌜ (n ≤ most-jobs) × (at + most-jobs ≤ length (now out)) ⌝ }
     ensures { λ r. ⌜ Printed (now (out .entry)) at (or-dash (jobs-text n starts)) r (now (out .exit)) ⌝ }
 {
     let next = put_jobs(out, at, starts, n);
@@ -125,7 +126,7 @@ fn put_starts(out: &mut [u8], at: usize, starts: u8, n: u8) -> usize
 
 // Prints what a tick code says.
 fn put_tick(out: &mut [u8], at: usize, tick: u8) -> usize
-    requires { ⌜ at + 4 ≤ length (now out) ⌝ }
+    requires { ⌜ at + length (tick-word tick) ≤ length (now out) ⌝ }
     ensures { λ r. ⌜ Printed (now (out .entry)) at (tick-word tick) r (now (out .exit)) ⌝ }
 {
     match tick {
@@ -137,7 +138,7 @@ fn put_tick(out: &mut [u8], at: usize, tick: u8) -> usize
 
 // Prints now, elapsed and the statuses of a row's state, each with a space behind it.
 fn put_state(out: &mut [u8], at: usize, n: u8, word: u32) -> usize
-    requires { ⌜ (n ≤ 8) × (at + state-bytes ≤ length (now out)) ⌝ }
+    requires { ⌜ (n ≤ most-jobs) × (at + state-bytes ≤ length (now out)) ⌝ }
     ensures { λ r. ⌜ Printed (now (out .entry)) at (state-part n (state-of word)) r (now (out .exit)) ⌝ }
 {
     let s = state_of(word);
@@ -152,7 +153,7 @@ fn put_state(out: &mut [u8], at: usize, n: u8, word: u32) -> usize
 
 // Prints a row's marks and ends its line.
 fn put_marks(out: &mut [u8], at: usize, n: u8, starts: u8, tick: u8) -> usize
-    requires { ⌜ (n ≤ 8) × (at + marks-bytes ≤ length (now out)) ⌝ }
+    requires { ⌜ (n ≤ most-jobs) × (at + marks-bytes ≤ length (now out)) ⌝ }
     ensures { λ r. ⌜ Printed (now (out .entry)) at (marks-part n starts tick) r (now (out .exit)) ⌝ }
 {
     let at = put_starts(out, at, starts, n);
@@ -163,7 +164,7 @@ fn put_marks(out: &mut [u8], at: usize, n: u8, starts: u8, tick: u8) -> usize
 
 // Prints a row of a table of n jobs: the state that its word says, and its marks.
 pub fn put_row(out: &mut [u8], at: usize, n: u8, word: u32, starts: u8, tick: u8) -> usize
-    requires { ⌜ (n ≤ 8) × (at + line-bytes ≤ length (now out)) ⌝ }
+    requires { ⌜ (n ≤ most-jobs) × (at + line-bytes ≤ length (now out)) ⌝ }
     ensures { λ r. ⌜ Printed (now (out .entry)) at (row-line n (record { word = word; starts = starts; tick = tick })) r (now (out .exit)) ⌝ }
 {
     let at = put_state(out, at, n, word);

@@ -16,7 +16,7 @@ put-requires : tie.Need-put-requires
 put-requires c κs = let b = c .before .before .before .before .before .before .before in omega (arith, starts-length (b .args .n) (b .args .starts) (b .pre .0))
 
 put-tick-requires : tie.Need-put-tick-requires
-put-tick-requires c κs = let b = c .before .before .before .before .before .before .before .before .before .before .before in omega (arith, starts-length (b .args .n) (b .args .starts) (b .pre .0))
+put-tick-requires c κs = let b = c .before .before .before .before .before .before .before .before .before .before .before in omega (arith, starts-length (b .args .n) (b .args .starts) (b .pre .0), tick-length (b .args .tick))
 
 slice-aggregate-put-2 : tie.Need-slice-aggregate-put-2
 slice-aggregate-put-2 c = search needs

@@ -7,8 +7,9 @@ use lib.ListN.{length, take}
 use Rattle.sheet.specs.Model.{State}
 use Rattle.state.specs.Clocks.{model}
 use Rattle.text.specs.Digits.{digit, decimal}
+use Rattle.text.specs.Parts.{state-part}
 use Rattle.text.specs.Printed.{Printed}
-use Rattle.text.specs.LineLaws.{state-part, now-length, elapsed-length, known-statuses, so-many-statuses}
+use Rattle.text.specs.LineLaws.{now-length, elapsed-length, known-statuses, so-many-statuses}
 use Rattle.text.specs.PrintedLaws.{printed-then}
 use borrow.Author.Needs.{needs}
 use Rattle.text.proofs.print.put_state.Statement.{statement}

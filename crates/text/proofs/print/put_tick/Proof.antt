@@ -1,5 +1,6 @@
 -- `put_tick`: each arm prints its word. Assumes nothing.
-use Rattle.text.specs.LineLaws.{else-held}
+use native.Mathlib.Omega.{arith}
+use Rattle.text.specs.LineLaws.{tick-length, else-held}
 use borrow.Author.Needs.{needs}
 use Rattle.text.proofs.print.put_tick.Statement.{statement}
 use Rattle.text.proofs.print.put_tick.Tie as tie
@@ -8,19 +9,19 @@ slice-aggregate-put : tie.Need-slice-aggregate-put
 slice-aggregate-put c = search needs
 
 put-requires : tie.Need-put-requires
-put-requires c κs = search needs
+put-requires c κs = omega (arith, tick-length (c .before .before .before .before .args .tick))
 
 slice-aggregate-put-2 : tie.Need-slice-aggregate-put-2
 slice-aggregate-put-2 c = search needs
 
 put-requires-2 : tie.Need-put-requires-2
-put-requires-2 c κs = search needs
+put-requires-2 c κs = omega (arith, tick-length (c .before .before .before .before .args .tick))
 
 slice-aggregate-put-3 : tie.Need-slice-aggregate-put-3
 slice-aggregate-put-3 c = search needs
 
 put-requires-3 : tie.Need-put-requires-3
-put-requires-3 c κs = search needs
+put-requires-3 c κs = omega (arith, tick-length (c .before .before .before .before .args .tick))
 
 same-length : tie.Need-same-length
 same-length c = search needs

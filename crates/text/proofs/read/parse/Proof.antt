@@ -21,7 +21,8 @@ abbrev μ-loop : tie.MeasureT-loop
 -- what was found, in the words of the turn
 front : (c : tie.After-known-told Inv-loop μ-loop) → Fronted (ending (c .before .before .before .before .before .before .before .loop .count)) (drop (c .before .before .before .before .before .before .before .loop .at) (c .before .before .before .before .before .before .before .before .before .args .text .now)) (c .before .digits .given .0 .0) (c .before .digits .given .0 .1 .0)
 front c =
-    let l = c .before .before .before .before .before .before .before .loop in let a = c .before .before .before .before .before .before .before .before .before .args in
+    let l = c .before .before .before .before .before .before .before .loop in
+    let a = c .before .before .before .before .before .before .before .before .before .args in
     let n = c .before .before .before .number-at in
     let e = c .before .before .before .before .end-of in
     let f = subst (Found-to (e .result) (drop (l .at) (a .text .now))) (c .before .digits .given .1) (n .ensures) in
@@ -35,7 +36,8 @@ refused-requires c κs = search needs
 
 returns : tie.Need-returns Inv-loop μ-loop
 returns c =
-    let l = c .before .before .before .loop in let a = c .before .before .before .before .before .args in
+    let l = c .before .before .before .loop in
+    let a = c .before .before .before .before .before .args in
     inr (so-far-full (a .text .now) (l .numbers) (l .count) (l .at) (l .inv) (omega arith) (omega arith), c .refused .ensures)
 
 end-of-requires : tie.Need-end-of-requires Inv-loop μ-loop
@@ -55,8 +57,10 @@ refused-requires-2 c κs = search needs
 
 returns-2 : tie.Need-returns-2 Inv-loop μ-loop
 returns-2 c =
-    let l = c .before .before .before .before .before .before .before .loop in let a = c .before .before .before .before .before .before .before .before .before .args in
-    let n = c .before .before .before .number-at in let e = c .before .before .before .before .end-of in
+    let l = c .before .before .before .before .before .before .before .loop in
+    let a = c .before .before .before .before .before .before .before .before .before .args in
+    let n = c .before .before .before .number-at in
+    let e = c .before .before .before .before .end-of in
     let f = subst (Found-to (e .result) (drop (l .at) (a .text .now))) (c .before .enum-told .given .1) (n .ensures) in
     inr (so-far-stuck (a .text .now) (l .numbers) (l .count) (l .at) (l .inv) (omega arith) (subst (λ (b : ℕ). Found-to b (drop (l .at) (a .text .now)) Nothing) (e .ensures) f), c .refused2 .ensures)
 
@@ -80,7 +84,8 @@ loop-less c = omega (arith, front c .within, length-drop (c .before .before .bef
 
 loop-again : tie.Need-loop-again Inv-loop μ-loop
 loop-again c =
-    let l = c .before .before .before .before .before .before .before .loop in let a = c .before .before .before .before .before .before .before .before .before .args in
+    let l = c .before .before .before .before .before .before .before .loop in
+    let a = c .before .before .before .before .before .before .before .before .before .args in
     so-far-more (a .text .now) (l .numbers) (l .count) (l .at) (l .inv) (c .before .digits .given .0 .0) (c .before .digits .given .0 .1 .0) (omega (arith, l .inv .few)) (front c)
 
 refused-requires-3 : tie.Need-refused-requires-3 Inv-loop μ-loop
@@ -88,7 +93,8 @@ refused-requires-3 c κs = search needs
 
 returns-3 : tie.Need-returns-3 Inv-loop μ-loop
 returns-3 c =
-    let l = c .before .before .before .loop in let a = c .before .before .before .before .before .args in
+    let l = c .before .before .before .loop in
+    let a = c .before .before .before .before .before .args in
     inr (so-far-short (a .text .now) (l .numbers) (l .count) (l .at) (l .inv) (omega arith) (inl (c .before .if2 .taken)), c .refused3 .ensures)
 
 refused-requires-4 : tie.Need-refused-requires-4 Inv-loop μ-loop
@@ -96,12 +102,14 @@ refused-requires-4 c κs = search needs
 
 returns-4 : tie.Need-returns-4 Inv-loop μ-loop
 returns-4 c =
-    let l = c .before .before .before .before .loop in let a = c .before .before .before .before .before .before .args in
+    let l = c .before .before .before .before .loop in
+    let a = c .before .before .before .before .before .before .args in
     inr (so-far-short (a .text .now) (l .numbers) (l .count) (l .at) (l .inv) (omega arith) (inr (c .before .if3 .taken)), c .refused4 .ensures)
 
 returns-5 : tie.Need-returns-5 Inv-loop μ-loop
 returns-5 c =
-    let l = c .before .before .before .loop in let a = c .before .before .before .before .before .args in
+    let l = c .before .before .before .loop in
+    let a = c .before .before .before .before .before .args in
     so-far-whole (a .text .now) (l .numbers) (l .count) (l .at) (l .inv) (omega arith) (omega arith) (c .if3 .left)
 
 pub parse-spec : {M : Type 1} → statement M
