@@ -1,0 +1,34 @@
+-- `put_header`: the two numbers and their words are the header's fields. Assumes nothing.
+use native.Mathlib.Omega.{arith}
+use Rattle.text.specs.Lines.{line}
+use Rattle.text.specs.LineLaws.{header-length}
+use borrow.Author.Needs.{needs}
+use Rattle.text.proofs.print.put_header.Statement.{statement}
+use Rattle.text.proofs.print.put_header.Tie as tie
+
+slice-aggregate-put-pair : tie.Need-slice-aggregate-put-pair
+slice-aggregate-put-pair c = search needs
+
+slice-aggregate-put-pair-2 : tie.Need-slice-aggregate-put-pair-2
+slice-aggregate-put-pair-2 c = search needs
+
+put-pair-requires : tie.Need-put-pair-requires
+unfolding line
+put-pair-requires c κs = let b = c .before .before .before .before in omega (arith, header-length (b .args .n) (b .args .rows) (b .fits .n .fits) (b .fits .rows .fits))
+
+same-length : tie.Need-same-length
+same-length c = search needs
+
+returns : tie.Need-returns
+unfolding line
+returns c = c .before .before .put-pair .ensures
+
+pub put-header-spec : {M : Type 1} → statement M
+put-header-spec =
+    tie.close
+    (tie.spec
+    slice-aggregate-put-pair
+    slice-aggregate-put-pair-2
+    put-pair-requires
+    same-length
+    returns)

@@ -1,0 +1,34 @@
+-- `put_refusal`: the two numbers and their words are the refusal's fields. Assumes nothing.
+use native.Mathlib.Omega.{arith}
+use Rattle.text.specs.Lines.{line}
+use Rattle.text.specs.LineLaws.{refusal-length}
+use borrow.Author.Needs.{needs}
+use Rattle.text.proofs.print.put_refusal.Statement.{statement}
+use Rattle.text.proofs.print.put_refusal.Tie as tie
+
+slice-aggregate-put-pair : tie.Need-slice-aggregate-put-pair
+slice-aggregate-put-pair c = search needs
+
+slice-aggregate-put-pair-2 : tie.Need-slice-aggregate-put-pair-2
+slice-aggregate-put-pair-2 c = search needs
+
+put-pair-requires : tie.Need-put-pair-requires
+unfolding line
+put-pair-requires c κs = let b = c .before .before .before .before in omega (arith, refusal-length (b .args .number) (b .args .detail) (b .fits .number .fits) (b .fits .detail .fits))
+
+same-length : tie.Need-same-length
+same-length c = search needs
+
+returns : tie.Need-returns
+unfolding line
+returns c = c .before .before .put-pair .ensures
+
+pub put-refusal-spec : {M : Type 1} → statement M
+put-refusal-spec =
+    tie.close
+    (tie.spec
+    slice-aggregate-put-pair
+    slice-aggregate-put-pair-2
+    put-pair-requires
+    same-length
+    returns)
