@@ -1,0 +1,33 @@
+// The C interface: each call of the library under the name that include/smirrado.h gives it. Nothing is worked out here.
+ghost use mathlib.Core.Path.{_≡_};
+ghost use Rattle.maker.specs.Making.{Made};
+ghost use Rattle.table.specs.OneReading.{reading};
+ghost use Rattle.table.specs.Replies.{row-reply, listing-reply, leeway-reply};
+
+#[no_mangle]
+pub extern "C" fn smirrado_make(sheet: &[u16], work: &mut [u32], out: &mut [u8]) -> maker::MakeReply
+    ensures { λ r. ⌜ Made (now (sheet .entry)) (now (work .entry)) (now (work .exit)) (now (out .entry)) (now (out .exit)) r ⌝ }
+{
+    maker::make(sheet, work, out)
+}
+
+#[no_mangle]
+pub extern "C" fn smirrado_row(file: &[u8], word: u32) -> table::row::RowReply
+    ensures { λ r. ⌜ r ≡ row-reply word (reading (now (file .entry))) ⌝ }
+{
+    table::row::row(file, word)
+}
+
+#[no_mangle]
+pub extern "C" fn smirrado_listing(file: &[u8], row_number: u32) -> table::listing::ListingReply
+    ensures { λ r. ⌜ r ≡ listing-reply «row_number» (reading (now (file .entry))) ⌝ }
+{
+    table::listing::listing(file, row_number)
+}
+
+#[no_mangle]
+pub extern "C" fn smirrado_leeway(file: &[u8], word: u32, job: u32) -> table::leeway::LeewayReply
+    ensures { λ r. ⌜ r ≡ leeway-reply word job (reading (now (file .entry))) ⌝ }
+{
+    table::leeway::leeway(file, word, job)
+}
