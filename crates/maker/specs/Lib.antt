@@ -14,3 +14,4 @@ pub mod Gathering
 pub mod GatheringLaws
 pub mod Making
 pub mod MakingLaws
+pub mod OneAnswer
