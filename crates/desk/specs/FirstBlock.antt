@@ -1,0 +1,34 @@
+-- The sheet of a good file as the code reads it off block 0. Assumes nothing.
+use Prim.Native.Nat.{ℕ}
+use native.Mathlib.Omega.{arith}
+use mathlib.Core.Path.{_≡_, sym, subst, _∙_}
+use mathlib.Core.List.{List}
+use lib.ListN.{length, getD, take}
+use lib.Seq.{ext-getD}
+use Rattle.sheet.specs.Model.{Sheet}
+use Rattle.sheet.specs.Table.{Entry}
+use Rattle.state.specs.Clocks.{sheet-of}
+use Rattle.blocks.specs.Sizes.{block-bytes}
+use Rattle.blocks.specs.BytesLaws.{Each-byte}
+use Rattle.blocks.specs.Fields.{slot-at, job-from}
+use Rattle.blocks.specs.SlotLaws.{no-job}
+use Rattle.blocks.specs.TabLaws.{length-tab, getD-tab}
+use Rattle.form.specs.BlockTest.{fours}
+use Rattle.table.specs.Reading.{block-at, good, Says}
+use Rattle.table.specs.ReadingLaws.{at-block, jobs-count, job-there}
+use Rattle.table.specs.BlockRight.{sheet-in}
+use Rattle.table.specs.OneReading.{reading, says-reading}
+
+-- what a file whose reading is good says
+pub said : (file : List ℕ) → Each-byte file → {σ : Sheet} {rows : List Entry} → reading file ≡ good σ rows → Says file (good σ rows)
+said file small e = subst (Says file) e (says-reading file small)
+
+module _ {file : List ℕ} {σ : Sheet} {rows : List Entry} (s : Says file (good σ rows)) where
+  pub count-read : length σ ≡ getD file 3 0
+  count-read = jobs-count (s .0) (s .1) ∙ at-block file 0 3 (omega arith)
+
+  pub sheet-read : (n : ℕ) → length σ ≡ n → sheet-of (fours (take block-bytes file)) n ≡ σ
+  sheet-read n e =
+      sheet-in (block-at file 0) n (omega (arith, s .1 .sheet .few-jobs))
+      ∙ ext-getD no-job _ σ (length-tab n (λ i. job-from (block-at file 0) (slot-at i)) ∙ sym e)
+      (λ i h. getD-tab n (λ i. job-from (block-at file 0) (slot-at i)) no-job i (omega (arith, length-tab n (λ i. job-from (block-at file 0) (slot-at i)))) ∙ job-there (s .0) (s .1) i (omega (arith, length-tab n (λ i. job-from (block-at file 0) (slot-at i)))))
