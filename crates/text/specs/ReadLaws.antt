@@ -51,6 +51,15 @@ reads-one text r s (inl x) (inr y) = absurd (y .0 (x .0) (x .1))
 reads-one text r s (inr x) (inl y) = absurd (x .0 (y .0) (y .1))
 reads-one text r s (inr x) (inr y) = x .1 ∙ sym (y .1)
 
+-- and there is room for its numbers
+pub reads-few : (text : List ℕ) (r : Parsed) → Reads text r → r .count ≤ most-numbers
+reads-few text r (inl x) =
+    let p = x .1 in
+    let n : length (x .0) ≡ length (flat (p .lines)) = ap length (p .values ∙ flat-values (p .lines)) ∙ length-map (flat (p .lines)) value in
+    let c : r .count ≡ length (x .0) = λ i. (x .2 i) .count in
+    omega (arith, flat-length (p .lines), p .few)
+reads-few text r (inr x) = let c : r .count ≡ 0 = λ i. (x .1 i) .count in omega arith
+
 -- Number after number -------------------------------------------------------------------------------------------------
 
 pub so-far-none : (text : List ℕ) → So-far text (replicate most-numbers 0) 0 0
