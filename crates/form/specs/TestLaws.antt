@@ -1,8 +1,8 @@
 -- The row's tests that need no loop say what they should: one job, the tick code. Assumes nothing.
-use Prim.Native.Nat.{ℕ, zero, suc, _+_, _≤_, _<_}
+use Prim.Native.Nat.{ℕ, _+_, _≤_}
 use native.Mathlib.Omega.{arith}
 use mathlib.Core.Path.{_≡_, refl, sym, ap, subst}
-use mathlib.Core.Logic.{_⊎_, inl, inr}
+use mathlib.Core.Logic.{_≢_, _⊎_, inl, inr}
 use mathlib.Core.Bool.{Bool, true, false, not, _&&_, _||_}
 use lib.Dec.{T, eqb, leb}
 use mir.Val.{boolByte}
@@ -30,81 +30,76 @@ is-self false = record { holds = λ t. absurd t; passes = λ e. subst T (sym e) 
 pub holds-is : (j : Job) (now elapsed s : ℕ) → Is ((eqb s 0 && eqb now (j .arrives)) || (eqb s 2 && eqb elapsed (j .most))) (Holds j now elapsed s)
 holds-is j now elapsed s = is-or (is-and (is-eq s 0) (is-eq now (j .arrives))) (is-and (is-eq s 2) (is-eq elapsed (j .most)))
 
+-- the rule that each status asks of a job
 module _ (j : Job) (now elapsed s : ℕ) (marked opens : Bool) where
-  abbrev Here : Type 0
-  Here = (j .arrives ≤ now) × (now + boolByte opens ≤ j .arrives + j .due)
-
   abbrev Fits : Type 0
   Fits = Job-fits j now elapsed s (marked ≡ true) (opens ≡ true)
-
-  -- the rule that each status asks
-  abbrev Asked : Type 0
-  Asked =
-      ((s ≡ 1) × Here)
-      ⊎ (¬ (marked ≡ true)
-      × (((s ≡ 0) × (now ≤ j .arrives))
-      ⊎ (((s ≡ 2) × (Here × ((elapsed ≤ j .most) × (j .arrives + elapsed ≤ now))))
-      ⊎ ((s ≡ 3) × (j .arrives + j .fewest ≤ now)))))
 
   one : opens ≡ true → boolByte opens ≡ 1
   one e = ap boolByte e
 
-  asked-fits : Asked → Fits
-  asked-fits (inl x) = record {
-    timely = record { waits = omega (arith, x .0); came = λ _. x .1 .0; runs = omega (arith, x .0); ended = omega (arith, x .0) };
-    in-time = λ _ _. omega (arith, x .1 .1);
-    soon = λ e _ _. omega (arith, x .1 .1, one e);
-    ready = λ _. x .0;
-  }
-  asked-fits (inr (u, inl x)) = record {
-    timely = record { waits = λ _. x .1; came = omega (arith, x .0); runs = omega (arith, x .0); ended = omega (arith, x .0) };
-    in-time = omega (arith, x .0);
-    soon = λ _. omega (arith, x .0);
-    ready = λ m. absurd (u m);
-  }
-  asked-fits (inr (u, inr (inl x))) = record {
-    timely = record { waits = omega (arith, x .0); came = λ _. x .1 .0 .0; runs = λ _. x .1 .1; ended = omega (arith, x .0) };
-    in-time = λ _ _. omega (arith, x .1 .0 .1);
-    soon = λ e _ _. omega (arith, x .1 .0 .1, one e);
-    ready = λ m. absurd (u m);
-  }
-  asked-fits (inr (u, inr (inr x))) = record {
-    timely = record { waits = omega (arith, x .0); came = λ _. omega (arith, x .1); runs = omega (arith, x .0); ended = λ _. x .1 };
-    in-time = omega (arith, x .0);
-    soon = λ _. omega (arith, x .0);
-    ready = λ m. absurd (u m);
-  }
-
-  fits-asked : s < 4 → Fits → Asked
-  fits-asked h f = go s refl
+  -- not late, and not late after an open tick
+  in-time : Fits → 1 ≤ s → s ≤ 2 → now + boolByte opens ≤ j .arrives + j .due
+  in-time f a o = go opens refl
     where
-      here : 1 ≤ s → s ≤ 2 → Here
-      here a o = (f .timely .came a, last opens refl)
-        where
-          last : (b : Bool) → b ≡ opens → now + boolByte b ≤ j .arrives + j .due
-          last true e = omega (arith, f .soon (sym e) a o)
-          last false e = omega (arith, f .in-time a o)
+      go : (b : Bool) → b ≡ opens → now + boolByte b ≤ j .arrives + j .due
+      go true e = omega (arith, f .soon (sym e) a o)
+      go false e = omega (arith, f .in-time a o)
 
-      go : (m : ℕ) → m ≡ s → Asked
-      go zero e = inr ((λ m. absurd (omega (arith, f .ready m))), inl (sym e, f .timely .waits (sym e)))
-      go (suc zero) e = inl (sym e, here (omega arith) (omega arith))
-      go (suc (suc zero)) e = inr ((λ m. absurd (omega (arith, f .ready m))), inr (inl (sym e, (here (omega arith) (omega arith), f .timely .runs (sym e)))))
-      go (suc (suc (suc zero))) e = inr ((λ m. absurd (omega (arith, f .ready m))), inr (inr (sym e, f .timely .ended (sym e))))
-      go (suc (suc (suc (suc m)))) e = absurd (omega arith)
+  pub fits-ready : s ≡ 1 → Is (leb (j .arrives) now && leb (now + boolByte opens) (j .arrives + j .due)) Fits
+  fits-ready e =
+      is-map
+      (λ x. record {
+        timely = record { waits = omega (arith, e); came = λ _. x .0; runs = omega (arith, e); ended = omega (arith, e) };
+        in-time = λ _ _. omega (arith, x .1);
+        soon = λ d _ _. omega (arith, x .1, one d);
+        ready = λ _. e;
+      })
+      (λ f. (f .timely .came (omega arith), in-time f (omega arith) (omega arith)))
+      (is-and (is-le (j .arrives) now) (is-le (now + boolByte opens) (j .arrives + j .due)))
 
-  pub fits-is : s < 4
-      → Is ((eqb s 1 && (leb (j .arrives) now && leb (now + boolByte opens) (j .arrives + j .due)))
-      || (not marked && ((eqb s 0 && leb now (j .arrives))
-      || ((eqb s 2 && ((leb (j .arrives) now && leb (now + boolByte opens) (j .arrives + j .due)) && (leb elapsed (j .most) && leb (j .arrives + elapsed) now)))
-      || (eqb s 3 && leb (j .arrives + j .fewest) now))))) Fits
-  fits-is h =
-      let here = is-and (is-le (j .arrives) now) (is-le (now + boolByte opens) (j .arrives + j .due)) in
-      is-map asked-fits (fits-asked h)
-      (is-or (is-and (is-eq s 1) here)
-      (is-and (is-not (is-self marked))
-      (is-or (is-and (is-eq s 0) (is-le now (j .arrives)))
-      (is-or (is-and (is-eq s 2) (is-and here (is-and (is-le elapsed (j .most)) (is-le (j .arrives + elapsed) now))))
-      (is-and (is-eq s 3) (is-le (j .arrives + j .fewest) now))))))
+  pub fits-marked : s ≢ 1 → marked ≡ true → ¬ Fits
+  fits-marked n m f = n (f .ready m)
+
+  module _ (u : marked ≡ false) where
+    unmarked : ¬ (marked ≡ true)
+    unmarked = told-no (is-self marked) u
+
+    pub fits-waiting : s ≡ 0 → Is (leb now (j .arrives)) Fits
+    fits-waiting e =
+        is-map
+        (λ x. record {
+          timely = record { waits = λ _. x; came = omega (arith, e); runs = omega (arith, e); ended = omega (arith, e) };
+          in-time = omega (arith, e);
+          soon = λ _. omega (arith, e);
+          ready = λ m. absurd (unmarked m);
+        })
+        (λ f. f .timely .waits e)
+        (is-le now (j .arrives))
+
+    pub fits-done : s ≡ 3 → Is (leb (j .arrives + j .fewest) now) Fits
+    fits-done e =
+        is-map
+        (λ x. record {
+          timely = record { waits = omega (arith, e); came = λ _. omega (arith, x); runs = omega (arith, e); ended = λ _. x };
+          in-time = omega (arith, e);
+          soon = λ _. omega (arith, e);
+          ready = λ m. absurd (unmarked m);
+        })
+        (λ f. f .timely .ended e)
+        (is-le (j .arrives + j .fewest) now)
+
+    pub fits-running : s ≡ 2 → Is (leb (now + boolByte opens) (j .arrives + j .due) && (leb elapsed (j .most) && leb (j .arrives + elapsed) now)) Fits
+    fits-running e =
+        is-map
+        (λ x. record {
+          timely = record { waits = omega (arith, e); came = λ _. omega (arith, x .1 .1); runs = λ _. x .1; ended = omega (arith, e) };
+          in-time = λ _ _. omega (arith, x .0);
+          soon = λ d _ _. omega (arith, x .0, one d);
+          ready = λ m. absurd (unmarked m);
+        })
+        (λ f. (in-time f (omega arith) (omega arith), f .timely .runs e))
+        (is-and (is-le (now + boolByte opens) (j .arrives + j .due)) (is-and (is-le elapsed (j .most)) (is-le (j .arrives + elapsed) now)))
 
 -- the tick code where the tick is not possible, and where it is
 module _ (held : Bool) (b c : ℕ) where

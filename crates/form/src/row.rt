@@ -37,17 +37,25 @@ fn elapsed_of(word: u32) -> u32
     (word >> 16) & 255
 }
 
-// Whether one job of this status fits, by the one rule that its status asks; only a ready job may be marked.
+// Whether one job of this status fits: each status asks its own rule, and only a ready job may be marked.
 fn job_fits(job: [u16; 4], s: u8, marked: bool, now: u32, elapsed: u32, opens: bool) -> bool
     requires { ⌜ (s < 4) × ((now < 256) × (elapsed < 256)) ⌝ }
     ensures { λ r. ⌜ Is r (Job-fits (job-of job) now elapsed s (marked ≡ true) (opens ≡ true)) ⌝ }
 {
     let a = wide(job[0]);
-    let here = (a <= now) & (now + (opens as u32) <= a + wide(job[3]));
-    let runs = here & ((elapsed <= wide(job[2])) & (a + elapsed <= now));
-    let ended = a + wide(job[1]) <= now;
-    let others = ((s == 0) & (now <= a)) | (((s == 2) & runs) | ((s == 3) & ended));
-    ((s == 1) & here) | (!marked & others)
+    if s == 1 {
+        return (a <= now) & (now + (opens as u32) <= a + wide(job[3]));
+    }
+    if marked {
+        return false;
+    }
+    if s == 0 {
+        return now <= a;
+    }
+    if s == 3 {
+        return a + wide(job[1]) <= now;
+    }
+    (now + (opens as u32) <= a + wide(job[3])) & ((elapsed <= wide(job[2])) & (a + elapsed <= now))
 }
 
 // Whether this job keeps the tick from being possible: its arrival is pending, or it has run for its most ticks.

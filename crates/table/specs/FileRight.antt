@@ -15,7 +15,8 @@ use Rattle.blocks.specs.TabLaws.{length-tab}
 use Rattle.form.specs.BlockTest.{Rows-block, Jobs-block, fours}
 use Rattle.table.specs.Reading.{total, block-at, Sized, Reads}
 use Rattle.table.specs.ReadingLaws.{good-below}
-use Rattle.table.specs.BlockRight.{before, jobs-in, sheet-in, jobs-open, opens-jobs, goes-on, went-on}
+use Rattle.table.specs.BlockRight.{before, goes-on, went-on}
+use Rattle.table.specs.JobsRight.{jobs-in, sheet-in, jobs-open, opens-jobs}
 use Rattle.table.specs.Judging.{Judged}
 use Rattle.table.specs.declared.judge.Verdict.the-variants.{Bad, Good}
 

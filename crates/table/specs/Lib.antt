@@ -8,9 +8,11 @@ pub mod Places
 pub mod ReadingLaws
 pub mod RoundTrip
 pub mod BlockRight
+pub mod JobsRight
 pub mod FileRight
 pub mod Decide
 pub mod OneReading
+pub mod TableBytes
 pub mod PlaceLaws
 pub mod RowLaws
 pub mod ListingLaws

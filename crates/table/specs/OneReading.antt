@@ -1,16 +1,19 @@
--- Every list of bytes has a reading, and one only (`says-one`). Assumes nothing.
+-- `reading`: what a file says. Every list of bytes says something, and one thing only (`says-one`). Assumes nothing.
 use Prim.Native.Nat.{ℕ, zero, suc, _+_, _-_, _%_, _≤_}
 use native.Mathlib.Omega.{arith}
 use native.Mathlib.Decide.{decLe, ℕ-discrete}
-use mathlib.Core.Path.{_≡_, refl, sym, ap, _∙_}
+use mathlib.Core.Path.{_≡_, refl, ap, subst, _∙_}
 use mathlib.Core.List.{List}
 use lib.ListN.{length, getD}
+use Rattle.sheet.specs.Model.{Sheet}
+use Rattle.sheet.specs.Table.{Entry}
 use Rattle.blocks.specs.Sizes.{block-bytes}
 use Rattle.blocks.specs.BytesLaws.{Each-byte}
 use Rattle.form.specs.BlockTest.{Rows-block, Jobs-block}
 use Rattle.table.specs.Reading.{total, block-at, Sized, Reading, good, bad, Says}
 use Rattle.table.specs.ReadingLaws.{says-one}
-use Rattle.table.specs.BlockRight.{before, jobs-in}
+use Rattle.table.specs.BlockRight.{before}
+use Rattle.table.specs.JobsRight.{jobs-in}
 use Rattle.table.specs.FileRight.{So-far, sized-of, length-bad, first-bad, first-good, next-bad, next-good, all-good}
 use Rattle.table.specs.Decide.{dec-bytes, dec-rows-block, dec-jobs-block}
 use Rattle.table.specs.Replies.{Answers}
@@ -42,7 +45,7 @@ module _ (file : List ℕ) (small : Each-byte file) where
       go (yes a) (no n) c = (bad 0, length-bad file (λ s. n (omega (arith, s .whole, s .long))))
       go (yes a) (yes b) (no n) = (bad 0, length-bad file (λ s. n (omega (arith, s .whole, s .short))))
 
--- what a file says (of a list that is no list of bytes: nothing of interest)
+-- what a file says; a list that is no list of bytes is no file, and counts as bad
 unfoldable pub reading : List ℕ → Reading
 reading file = elim (dec-bytes file) [ yes small ↦ says-some file small .0 | no n ↦ bad 0 ]
 
@@ -58,6 +61,15 @@ says-reading file small = go (dec-bytes file)
 pub answer-is : {R : Type 0} (file : List ℕ) → Each-byte file → (f : Reading → R) (r : R) → Answers file f r → r ≡ f (reading file)
 answer-is file small f r a = a .2 ∙ ap f (says-one file (a .0) (reading file) (a .1) (says-reading file small))
 
--- LAW: two replies that meet one contract are equal
-pub answers-one : {R : Type 0} (file : List ℕ) (f : Reading → R) (r r′ : R) → Answers file f r → Answers file f r′ → r ≡ r′
-answers-one file f r r′ a b = a .2 ∙ (ap f (says-one file (a .0) (b .0) (a .1) (b .1)) ∙ sym (b .2))
+-- only a list of bytes says jobs and rows
+pub reading-says : (file : List ℕ) (σ : Sheet) (rows : List Entry) → reading file ≡ good σ rows → Says file (good σ rows)
+unfolding reading
+reading-says file σ rows e = go (dec-bytes file) e
+  where
+    Bad : Reading → Type 0
+    Bad (bad b) = b ≡ b
+    Bad (good σ rows) = ⊥
+
+    go : (d : Dec (Each-byte file)) → elim d [ yes s ↦ says-some file s .0 | no n ↦ bad 0 ] ≡ good σ rows → Says file (good σ rows)
+    go (yes s) e = subst (Says file) e (says-some file s .1)
+    go (no n) e = absurd (subst Bad e refl)

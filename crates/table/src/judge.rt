@@ -42,7 +42,7 @@ fn rows_good(file: &[u8], b: usize, total: usize, jobs: [[u16; 4]; 8], n: u8) ->
     rows_follow(part, b as u16, total as u16, last, jobs, n)
 }
 
-// The form of a file: the first block that its test refuses, for all before it passed.
+// The form of a file: the first block that its test refuses. Blocks 0 to `passed` are good.
 pub fn judge(file: &[u8]) -> Verdict
     ensures { λ r. ⌜ Judged (now (file .entry)) r ⌝ }
 {
@@ -63,12 +63,13 @@ pub fn judge(file: &[u8]) -> Verdict
     }
     let n = first[3];
     let jobs = jobs_of(first);
-    let mut b: usize = 1;
-    while b < total {
+    let mut passed: usize = 0;
+    while passed + 1 < total {
+        let b = passed + 1;
         if !rows_good(file, b, total, jobs, n) {
             return Verdict::Bad(b as u32);
         }
-        b += 1;
+        passed = b;
     }
     Verdict::Good(n)
 }

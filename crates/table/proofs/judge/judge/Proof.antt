@@ -1,5 +1,5 @@
 -- The blocks passed are read, and the first that its test refuses is the lowest bad one. Assumes nothing.
-use Prim.Native.Nat.{_-_, _≤_}
+use Prim.Native.Nat.{_+_, _-_, _≤_}
 use mathlib.Core.Path.{refl}
 use native.Mathlib.Omega.{arith}
 use lib.ListN.{length-take}
@@ -12,10 +12,10 @@ use Rattle.table.proofs.judge.judge.Statement.{statement}
 use Rattle.table.proofs.judge.judge.Tie as tie
 
 abbrev Inv-loop : tie.InvT-loop
-Inv-loop file bytes total n jobs b₀ b = (1 ≤ b) × ((b ≤ total) × So-far file b)
+Inv-loop file bytes total n jobs passed₀ passed = (passed + 1 ≤ total) × So-far file (passed + 1)
 
 abbrev μ-loop : tie.MeasureT-loop
-μ-loop file bytes total n jobs b₀ b = total - b
+μ-loop file bytes total n jobs passed₀ passed = total - passed
 
 returns : tie.Need-returns Inv-loop μ-loop
 returns c = length-bad _ (λ s. omega (arith, s .whole))
@@ -45,21 +45,24 @@ jobs-of-requires : tie.Need-jobs-of-requires Inv-loop μ-loop
 jobs-of-requires c κs = omega (arith, length-take block-bytes (c .before .before .before .before .before .before .before .before .args .file .now))
 
 loop-holds : tie.Need-loop-holds Inv-loop μ-loop
-loop-holds c = (omega arith, (omega arith, first-good (c .before .before .before .before .before .before .before .before .before .args .file .now) (sized-of (c .before .before .before .before .before .before .before .before .before .args .file .now) (omega arith) (omega arith) (omega arith)) (λ i. omega (arith, c .before .before .before .before .before .before .before .before .shared-slice-known .given i)) (told-yes (c .before .before .before .jobs-good .ensures) (not-false _ (c .before .before .if4 .left)))))
+loop-holds c = (omega arith, first-good (c .before .before .before .before .before .before .before .before .before .args .file .now) (sized-of (c .before .before .before .before .before .before .before .before .before .args .file .now) (omega arith) (omega arith) (omega arith)) (λ i. omega (arith, c .before .before .before .before .before .before .before .before .shared-slice-known .given i)) (told-yes (c .before .before .before .jobs-good .ensures) (not-false _ (c .before .before .if4 .left))))
+
+add-loop : tie.Need-add-loop Inv-loop μ-loop
+add-loop c = search needs
+
+add-b : tie.Need-add-b Inv-loop μ-loop
+add-b c = search needs
 
 rows-good-requires : tie.Need-rows-good-requires Inv-loop μ-loop
 rows-good-requires c κs = (omega arith, (told-yes (c .before .before .before .before .before .jobs-good .ensures) (not-false _ (c .before .before .before .before .if4 .left))) .few)
 
-cast-t17 : tie.Need-cast-t17 Inv-loop μ-loop
-cast-t17 c = omega arith
+cast-t19 : tie.Need-cast-t19 Inv-loop μ-loop
+cast-t19 c = omega arith
 
 returns-5 : tie.Need-returns-5 Inv-loop μ-loop
 returns-5 c =
     let t = told-yes (c .before .before .before .before .before .before .before .jobs-good .ensures) (not-false _ (c .before .before .before .before .before .before .if4 .left)) in
-    next-bad (c .before .before .before .before .before .before .before .before .before .before .before .before .before .args .file .now) (sized-of (c .before .before .before .before .before .before .before .before .before .before .before .before .before .args .file .now) (omega arith) (omega arith) (omega arith)) (c .before .before .before .loop .b) (c .before .before .before .loop .inv .1 .1) (omega arith) (rw (sheet-is _ _ _ (c .before .before .before .before .jobs-of .ensures) refl (t .few)) at (told-no (c .before .rows-good .ensures) (not-true _ (c .if5 .taken))))
-
-add-b : tie.Need-add-b Inv-loop μ-loop
-add-b c = search needs
+    next-bad (c .before .before .before .before .before .before .before .before .before .before .before .before .before .args .file .now) (sized-of (c .before .before .before .before .before .before .before .before .before .before .before .before .before .args .file .now) (omega arith) (omega arith) (omega arith)) (c .before .before .before .loop .passed + 1) (c .before .before .before .loop .inv .1) (omega arith) (rw (sheet-is _ _ _ (c .before .before .before .before .jobs-of .ensures) refl (t .few)) at (told-no (c .before .rows-good .ensures) (not-true _ (c .if5 .taken))))
 
 loop-less : tie.Need-loop-less Inv-loop μ-loop
 loop-less c = search needs
@@ -67,10 +70,10 @@ loop-less c = search needs
 loop-again : tie.Need-loop-again Inv-loop μ-loop
 loop-again c =
     let t = told-yes (c .before .before .before .before .before .before .before .jobs-good .ensures) (not-false _ (c .before .before .before .before .before .before .if4 .left)) in
-    (omega arith, (omega arith, next-good (c .before .before .before .before .before .before .before .before .before .before .before .before .before .args .file .now) (sized-of (c .before .before .before .before .before .before .before .before .before .before .before .before .before .args .file .now) (omega arith) (omega arith) (omega arith)) (c .before .before .before .loop .b) (c .before .before .before .loop .inv .1 .1) (λ i. omega (arith, c .before .before .before .before .before .before .before .before .before .before .before .before .shared-slice-known .given i)) (omega arith) (rw (sheet-is _ _ _ (c .before .before .before .before .jobs-of .ensures) refl (t .few)) at (told-yes (c .before .rows-good .ensures) (not-false _ (c .if5 .left))))))
+    (omega arith, next-good (c .before .before .before .before .before .before .before .before .before .before .before .before .before .args .file .now) (sized-of (c .before .before .before .before .before .before .before .before .before .before .before .before .before .args .file .now) (omega arith) (omega arith) (omega arith)) (c .before .before .before .loop .passed + 1) (c .before .before .before .loop .inv .1) (λ i. omega (arith, c .before .before .before .before .before .before .before .before .before .before .before .before .shared-slice-known .given i)) (omega arith) (rw (sheet-is _ _ _ (c .before .before .before .before .jobs-of .ensures) refl (t .few)) at (told-yes (c .before .rows-good .ensures) (not-false _ (c .if5 .left)))))
 
 returns-6 : tie.Need-returns-6 Inv-loop μ-loop
-returns-6 c = all-good (c .before .before .before .before .before .before .before .before .before .before .before .args .file .now) (sized-of (c .before .before .before .before .before .before .before .before .before .before .before .args .file .now) (omega arith) (omega arith) (omega arith)) (c .before .loop .b) (c .before .loop .inv .1 .1) (omega arith) (omega arith) _ refl
+returns-6 c = all-good (c .before .before .before .before .before .before .before .before .before .before .before .args .file .now) (sized-of (c .before .before .before .before .before .before .before .before .before .before .before .args .file .now) (omega arith) (omega arith) (omega arith)) (c .before .loop .passed + 1) (c .before .loop .inv .1) (omega arith) (omega arith) _ refl
 
 pub judge-spec : {M : Type 1} → statement M
 judge-spec =
@@ -88,10 +91,11 @@ judge-spec =
     shared-slice-read-n
     jobs-of-requires
     loop-holds
-    rows-good-requires
-    cast-t17
-    returns-5
+    add-loop
     add-b
+    rows-good-requires
+    cast-t19
+    returns-5
     loop-less
     loop-again
     returns-6)
