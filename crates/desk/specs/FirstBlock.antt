@@ -1,13 +1,15 @@
 -- The sheet of a good file as the code reads it off block 0. Assumes nothing.
 use Prim.Native.Nat.{ℕ}
 use native.Mathlib.Omega.{arith}
-use mathlib.Core.Path.{_≡_, sym, subst, _∙_}
+use mathlib.Core.Path.{_≡_, sym, ap, subst, _∙_}
 use mathlib.Core.List.{List}
 use lib.ListN.{length, getD, take}
 use lib.Seq.{ext-getD}
-use Rattle.sheet.specs.Model.{Sheet}
+use Rattle.sheet.specs.Model.{Sheet, State}
 use Rattle.sheet.specs.Table.{Entry}
 use Rattle.state.specs.Clocks.{sheet-of}
+use Rattle.state.specs.Look.{look-of}
+use Rattle.state.specs.declared.look.Look.{Look}
 use Rattle.blocks.specs.Sizes.{block-bytes}
 use Rattle.blocks.specs.BytesLaws.{Each-byte}
 use Rattle.blocks.specs.Fields.{slot-at, job-from}
@@ -32,3 +34,7 @@ module _ {file : List ℕ} {σ : Sheet} {rows : List Entry} (s : Says file (good
       sheet-in (block-at file 0) n (omega (arith, s .1 .sheet .few-jobs))
       ∙ ext-getD no-job _ σ (length-tab n (λ i. job-from (block-at file 0) (slot-at i)) ∙ sym e)
       (λ i h. getD-tab n (λ i. job-from (block-at file 0) (slot-at i)) no-job i (omega (arith, length-tab n (λ i. job-from (block-at file 0) (slot-at i)))) ∙ job-there (s .0) (s .1) i (omega (arith, length-tab n (λ i. job-from (block-at file 0) (slot-at i)))))
+
+  -- the look at a state, by the jobs that the code read
+  pub looked : {js : List (List ℕ)} {l : Look} (q : State) → js ≡ fours (take block-bytes file) → l ≡ look-of (sheet-of js (getD file 3 0)) q → l ≡ look-of σ q
+  looked q e d = d ∙ ap (λ (τ : Sheet). look-of τ q) (ap (λ (j : List (List ℕ)). sheet-of j (getD file 3 0)) e ∙ sheet-read (getD file 3 0) count-read)

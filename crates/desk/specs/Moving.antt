@@ -1,5 +1,5 @@
 -- What the code asks of an event before it goes on, case by case.
-use Prim.Native.Nat.{ℕ, _<_}
+use Prim.Native.Nat.{_<_}
 use Rattle.plant.specs.Search.{In}
 use Rattle.state.specs.declared.event.Event.{Event}
 use Rattle.state.specs.declared.event.Event.the-variants.{Tick, Arrival, Start, Ending, Nothing}

@@ -19,7 +19,7 @@ use Rattle.state.specs.Tell.{tell-yes}
 use Rattle.state.specs.EventByte.{event-of, kind-of}
 use Rattle.state.specs.declared.event.Event as code
 use Rattle.table.specs.Reading.{Reading, good, bad}
-use Rattle.table.specs.Replies.{told, refused, lookup, row-reply}
+use Rattle.table.specs.Replies.{told, lookup, row-reply}
 use Rattle.table.specs.declared.row.RowReply.{RowReply}
 use Rattle.desk.specs.Stepping.{state-in, known, on, names, allows, stays, moves, asked, step-reply}
 use Rattle.desk.specs.declared.desk.Desk.{Desk}

@@ -1,5 +1,5 @@
 -- A bit of the look is the test of its event. Assumes nothing.
-use mathlib.Core.Path.{refl, subst, _∙_}
+use mathlib.Core.Path.{refl, subst}
 use borrow.Author.Needs.{needs}
 use Rattle.desk.specs.Moving.{Job-fits}
 use Rattle.desk.specs.MoveLaws.{look-tick, look-arrival, look-start, look-ending}
