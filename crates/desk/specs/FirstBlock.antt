@@ -18,7 +18,7 @@ use Rattle.blocks.specs.TabLaws.{length-tab, getD-tab}
 use Rattle.form.specs.BlockTest.{fours}
 use Rattle.table.specs.Reading.{block-at, good, Says}
 use Rattle.table.specs.ReadingLaws.{at-block, jobs-count, job-there}
-use Rattle.table.specs.BlockRight.{sheet-in}
+use Rattle.table.specs.JobsRight.{sheet-in}
 use Rattle.table.specs.OneReading.{reading, says-reading}
 
 -- what a file whose reading is good says

@@ -96,12 +96,3 @@ pub fn step(file: &[u8], desk: Desk, event: u8) -> Stepped
     }
     step_in(file, told, desk, event)
 }
-
-// The step over the caller's desk: the record is copied out, and the one answered is put back whole.
-pub fn step_desk(file: &[u8], desk: &mut Desk, event: u8) -> StepReply
-    ensures { λ r. ⌜ (r ≡ step-reply (now (desk .entry)) event (reading (now (file .entry))) .reply) × (now (desk .exit) ≡ step-reply (now (desk .entry)) event (reading (now (file .entry))) .desk) ⌝ }
-{
-    let s = step(file, *desk, event);
-    *desk = s.desk;
-    s.reply
-}
