@@ -8,8 +8,8 @@ use lib.Seq.{ext-getD}
 use Rattle.sheet.specs.Model.{Sheet, State}
 use Rattle.sheet.specs.Table.{Entry}
 use Rattle.state.specs.Clocks.{sheet-of}
-use Rattle.state.specs.Look.{look-of}
-use Rattle.state.specs.declared.look.Look.{Look}
+use Rattle.look.specs.Look.{look-of}
+use Rattle.look.specs.declared.Look.{Look}
 use Rattle.blocks.specs.Sizes.{block-bytes}
 use Rattle.blocks.specs.BytesLaws.{Each-byte}
 use Rattle.blocks.specs.Fields.{slot-at, job-from}

@@ -16,14 +16,14 @@ use Rattle.sheet.specs.Table.{Entry, at}
 use Rattle.sheet.specs.Form.{state-of, In-order, Finished-state, Under-way, Fits, Good-rows}
 use Rattle.state.specs.Clocks.{Known, model}
 use Rattle.state.specs.EventByte.{kind-of}
-use Rattle.state.specs.LateLaws.{tick-fits}
-use Rattle.state.specs.Look.{look-of}
-use Rattle.state.specs.LookLaws.{Looks, looks}
+use Rattle.look.specs.LateLaws.{tick-fits}
+use Rattle.look.specs.Look.{look-of}
+use Rattle.look.specs.LookLaws.{Looks, looks}
 use Rattle.state.specs.Tell.{same-test, told-yes}
 use Rattle.state.specs.WordBack.{state-back}
 use Rattle.state.specs.declared.event.Event.{Event}
 use Rattle.state.specs.declared.event.Event.the-variants.{Tick, Arrival, Start, Ending, Nothing}
-use Rattle.state.specs.declared.look.Look.{Look}
+use Rattle.look.specs.declared.Look.{Look}
 use Rattle.state.specs.declared.word.State as by-value
 use Rattle.table.specs.Replies.{lookup}
 use Rattle.table.specs.declared.row.RowReply.{RowReply}

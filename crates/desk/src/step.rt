@@ -19,8 +19,8 @@ use crate::moves::may;
 use crate::moves::names;
 use blocks::sizes::BLOCK;
 use form::block::jobs_of;
+use look::look_at;
 use state::event::event_of;
-use state::look::look_at;
 use table::row::RowReply;
 use table::row::row;
 

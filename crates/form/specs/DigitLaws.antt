@@ -15,7 +15,7 @@ use Rattle.plant.specs.Mask.{byte-some}
 use Rattle.sheet.specs.Model.{digits-word, status}
 use Rattle.sheet.specs.Form.{digits, state-of}
 use Rattle.sheet.specs.WordLaws.{digits-lt, word-of-digits}
-use Rattle.state.specs.ShiftLaws.{four-pow}
+use Rattle.state.specs.BitLaws.{four-pow}
 
 -- a word of statuses below 4 ^ n has none from place n on
 pub none-from : (n : ℕ) (l : List ℕ) → digits-word l < 4 ^ n → (j : ℕ) → n ≤ j → getD l j 0 ≡ 0

@@ -18,7 +18,7 @@ use Rattle.sheet.specs.WordLaws.{length-digits, digits-lt, word-of-digits}
 use Rattle.sheet.specs.Form.{digits, state-of, Timely, Under-way, Finished-state, Good-entry}
 use Rattle.sheet.specs.Table.{Entry}
 use Rattle.state.specs.Tell.{told-yes}
-use Rattle.state.specs.LateLaws.{is-due, due-late}
+use Rattle.look.specs.LateLaws.{is-due, due-late}
 use Rattle.form.specs.RowTest.{Jobs-fit, Runs, Held, Ends, Code-fits}
 use Rattle.form.specs.DigitLaws.{threes, of-threes}
 

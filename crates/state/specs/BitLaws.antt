@@ -45,9 +45,13 @@ pub or-bit : (n k : ℕ) → bitOr n (2 ^ k) ≡ n + (1 - n / 2 ^ k % 2) * 2 ^ k
 or-bit n k = set-digit n (n / 2 ^ k % 2) (2 ^ k) (bitOr n (2 ^ k)) (mod-lt (n / 2 ^ k) (lit< tt)) (rw (and-bit n k) at (or-add-and n (2 ^ k)))
 
 -- two bits at a time
-four-pow : (k : ℕ) → 2 ^ (2 * k) ≡ 4 ^ k
+pub four-pow : (k : ℕ) → 2 ^ (2 * k) ≡ 4 ^ k
 four-pow zero = refl
 four-pow (suc k) = rw (mul-suc 2 k, pow-add 2 (2 * k) 2, four-pow k, pow-suc 4 k) refl
+
+-- one in the place of job k + 1
+pub one-at : (k : ℕ) → k ≤ 8 → 1 * 2 ^ (2 * k) % 2 ^ 32 ≡ 4 ^ k
+one-at k h = rw (one-shl 32 (2 * k) (omega arith)) (four-pow k)
 
 pub two-bits : (w k : ℕ) → bitAnd (w / 2 ^ (2 * k)) 3 ≡ w / 4 ^ k % 4
 two-bits w k = rw (and-mask (w / 2 ^ (2 * k)) 2, four-pow k) refl

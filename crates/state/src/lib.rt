@@ -1,8 +1,5 @@
-// A sheet, its states and its events by value: events of bytes, bits of jobs, a state and its word, what is possible in a state, what an event leads to.
-pub mod after;
+// Sheets, states and events by value: the event of a byte, the bits of jobs, a sheet of numbers, a state and its word.
 pub mod bits;
-mod clock;
 pub mod event;
 pub mod jobs;
-pub mod look;
 pub mod word;

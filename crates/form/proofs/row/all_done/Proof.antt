@@ -4,7 +4,7 @@ use mathlib.Core.Path.{refl}
 use native.Mathlib.Nat.{one-le-pow}
 use lib.Dec.{lit<}
 use lib.Bits.{and-mask}
-use Rattle.state.specs.ShiftLaws.{one-at}
+use Rattle.state.specs.BitLaws.{one-at}
 use borrow.Author.Needs.{needs}
 use Rattle.form.proofs.row.all_done.Statement.{statement}
 use Rattle.form.proofs.row.all_done.Tie as tie
