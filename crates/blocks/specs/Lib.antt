@@ -12,5 +12,4 @@ pub mod CheckLaws
 pub mod TabLaws
 pub mod BlockLaws
 pub mod SlotLaws
-pub mod WriteLaws
 pub mod FileLaws

@@ -38,21 +38,21 @@ pub fn read32(s: &[u8], at: usize) -> u32
 }
 
 // The low byte of a number of 16 bits.
-pub(crate) fn low(x: u16) -> u8
-    ensures { λ r. ⌜ r ≡ x % 256 ⌝ }
+pub fn low(n: u16) -> u8
+    ensures { λ r. ⌜ r ≡ n % 256 ⌝ }
 {
-    (x % 256) as u8
+    (n % 256) as u8
 }
 
 // Its high byte.
-pub(crate) fn high(x: u16) -> u8
-    ensures { λ r. ⌜ r ≡ x / 256 ⌝ }
+pub fn high(n: u16) -> u8
+    ensures { λ r. ⌜ r ≡ n / 256 ⌝ }
 {
-    (x / 256) as u8
+    (n / 256) as u8
 }
 
 // The four bytes of a number of 32 bits.
-pub(crate) fn bytes32(x: u32) -> [u8; 4]
+pub fn bytes32(x: u32) -> [u8; 4]
     ensures { λ r. ⌜ r ≡ le32 x ⌝ }
 {
     [

@@ -2,7 +2,6 @@
 use blocks::numbers;
 use blocks::sizes::BLOCK;
 use blocks::sizes::BODY;
-use blocks::writer;
 
 fn main() {
     let none: [u16; 4] = [0; 4];

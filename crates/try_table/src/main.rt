@@ -1,5 +1,4 @@
 // Writes a file of good form for S1, the one job (0,1,1,1), that also has the word 16777217, and asks it (01, "Sheets worked by hand", 13).
-use blocks::writer;
 use table::leeway::leeway;
 use table::listing::listing;
 use table::row::row;

@@ -1,0 +1,2 @@
+-- A block written piece by piece, from the front on.
+pub mod WriteLaws

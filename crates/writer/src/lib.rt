@@ -1,0 +1,182 @@
+// Blocks, and a file, written from the front on: what stands before a place is final, what stands after it is as it was.
+ghost use mathlib.Core.Path.{_≡_};
+ghost use mathlib.Core.List.{_++_, map};
+ghost use Prim.Native.Nat.{_≤_, _+_, _*_, min};
+ghost use lib.ListN.{length, take, drop};
+ghost use Rattle.blocks.specs.Sizes.{block-bytes, body-bytes, block-slots, most-jobs, most-rows};
+ghost use Rattle.blocks.specs.File.{header, sealed, block-of, job-slot, row-slot, blocks-of, bytes-of};
+ghost use Rattle.blocks.specs.Held.{job-of, sheet-of, row-of, entries-from, entries-of};
+use blocks::check;
+use blocks::letters::LETTERS;
+use blocks::numbers::bytes32;
+use blocks::numbers::high;
+use blocks::numbers::low;
+use blocks::put::put;
+use blocks::put::put_zeros;
+use blocks::sizes::BLOCK;
+use blocks::sizes::BODY;
+use blocks::sizes::HEADER;
+use blocks::sizes::SLOT;
+use blocks::sizes::SLOTS;
+
+// The bytes before the slots: letters, jobs, slots used, block number, number of blocks.
+fn header_of(n: u8, used: u8, k: u16, total: u16) -> [u8; HEADER]
+    ensures { λ r. ⌜ r ≡ header n used k total ⌝ }
+{
+    [
+        LETTERS[0],
+        LETTERS[1],
+        n,
+        used,
+        low(k),
+        high(k),
+        low(total),
+        high(total),
+    ]
+}
+
+// A job's slot: its four numbers in two bytes each.
+fn job_slot(job: [u16; 4]) -> [u8; SLOT]
+    ensures { λ r. ⌜ r ≡ job-slot (job-of job) ⌝ }
+{
+    let a = job[0];
+    let b = job[1];
+    let w = job[2];
+    let d = job[3];
+    [
+        low(a),
+        high(a),
+        low(b),
+        high(b),
+        low(w),
+        high(w),
+        low(d),
+        high(d),
+    ]
+}
+
+// A row's slot: its word, starts and tick code, and two zeros. A mark's two low bytes are the starts and the tick code.
+fn row_slot(word: u32, mark: u32) -> [u8; SLOT]
+    ensures { λ r. ⌜ r ≡ row-slot (row-of word mark) ⌝ }
+{
+    let w = bytes32(word);
+    let m = bytes32(mark);
+    [w[0], w[1], w[2], w[3], m[0], m[1], 0, 0]
+}
+
+// Ends a block whose header and slots stand up to a place: zeros behind them, and the check of all that.
+fn seal(part: &mut [u8], at: usize)
+    requires { ⌜ (length (now part) ≡ block-bytes) × (at ≤ body-bytes) ⌝ }
+    ensures { λ _. ⌜ now (part .exit) ≡ sealed (take at (now (part .entry))) ⌝ }
+{
+    put_zeros(part, at, BODY);
+    let bytes = bytes32(check::check_of(part));
+    put(part, BODY, &bytes);
+}
+
+// Writes block 0 of a file: the header, a slot a job, zeros and the check, each put behind what stands already.
+pub fn write_jobs(part: &mut [u8], n: u8, total: u16, jobs: [[u16; 4]; 8])
+    requires { ⌜ (length (now part) ≡ block-bytes) × (n ≤ most-jobs) ⌝ }
+    ensures { λ _. ⌜ now (part .exit) ≡ block-of n 0 total (map job-slot (sheet-of jobs n)) ⌝ }
+{
+    let head = header_of(n, n, 0, total);
+    put(part, 0, &head);
+    let many = n as usize;
+    let mut s: usize = 0;
+    while s < many {
+        let slot = job_slot(jobs[s]);
+        put(part, HEADER + SLOT * s, &slot);
+        s += 1;
+    }
+    seal(part, HEADER + SLOT * many);
+}
+
+// Writes block k of a file, with so many rows from a place on: as block 0, with a slot a row.
+pub fn write_rows(
+    part: &mut [u8],
+    n: u8,
+    k: u16,
+    total: u16,
+    words: &[u32],
+    marks: &[u32],
+    from: usize,
+    used: u8,
+)
+    requires { ⌜ (length (now part) ≡ block-bytes) × (used ≤ block-slots) ⌝ }
+    requires { ⌜ (from + used ≤ length (now words)) × (from + used ≤ length (now marks)) ⌝ }
+    ensures { λ _. ⌜ now (part .exit) ≡ block-of n k total (map row-slot (entries-from (now (words .entry)) (now (marks .entry)) from used)) ⌝ }
+{
+    let head = header_of(n, used, k, total);
+    put(part, 0, &head);
+    let rows = used as usize;
+    let mut s: usize = 0;
+    while s < rows {
+        let slot = row_slot(words[from + s], marks[from + s]);
+        put(part, HEADER + SLOT * s, &slot);
+        s += 1;
+    }
+    seal(part, HEADER + SLOT * rows);
+}
+
+// The slots that so many rows left fill in one block: all of them, where there are that many.
+fn used_by(left: usize) -> u8
+    ensures { λ r. ⌜ (r ≡ min block-slots left) × (r ≤ block-slots) ⌝ }
+{
+    if left < SLOTS {
+        return left as u8;
+    }
+    SLOTS as u8
+}
+
+// The blocks of a file of so many rows: block 0, and one for each 62 rows or fewer.
+fn blocks_of(count: usize) -> usize
+    requires { ⌜ count ≤ most-rows ⌝ }
+    ensures { λ r. ⌜ r ≡ blocks-of count ⌝ }
+{
+    1 + (count + (SLOTS - 1)) / SLOTS
+}
+
+// The bytes of a file of so many rows.
+pub fn bytes_needed(count: usize) -> usize
+    requires { ⌜ count ≤ most-rows ⌝ }
+    ensures { λ r. ⌜ r ≡ block-bytes * blocks-of count ⌝ }
+{
+    BLOCK * blocks_of(count)
+}
+
+// Writes the whole file of a sheet and the first rows: block 0, then block after block of rows. What stands behind the file is left.
+pub fn write_file(
+    out: &mut [u8],
+    n: u8,
+    jobs: [[u16; 4]; 8],
+    words: &[u32],
+    marks: &[u32],
+    count: usize,
+)
+    requires { ⌜ (n ≤ most-jobs) × ((count ≤ most-rows) × ((count ≤ length (now words)) × (count ≤ length (now marks)))) ⌝ }
+    requires { ⌜ block-bytes * blocks-of count ≤ length (now out) ⌝ }
+    ensures { λ _. ⌜ now (out .exit) ≡ bytes-of (sheet-of jobs n) (entries-of (now (words .entry)) (now (marks .entry)) count) ++ drop (block-bytes * blocks-of count) (now (out .entry)) ⌝ }
+{
+    let total = blocks_of(count);
+    let start: usize = 0;
+    let stop: usize = BLOCK;
+    write_jobs(&mut out[start..stop], n, total as u16, jobs);
+    let mut b: usize = 1;
+    while b < total {
+        let from = SLOTS * (b - 1);
+        let used = used_by(count - from);
+        let at = BLOCK * b;
+        let end = at + BLOCK;
+        write_rows(
+            &mut out[at..end],
+            n,
+            b as u16,
+            total as u16,
+            words,
+            marks,
+            from,
+            used,
+        );
+        b += 1;
+    }
+}
