@@ -43,7 +43,7 @@
 #define SMIRRADO_STEP_STACK 512
 
 #define SMIRRADO_JOBS 8           /* the most jobs of a sheet */
-#define SMIRRADO_WORK_WORDS 15748 /* the words that make works in */
+#define SMIRRADO_WORK_WORDS 15748 /* the words that make works in: 62,992 bytes */
 #define SMIRRADO_FILE_BYTES 65536 /* the most bytes of a table file */
 
 /* The number of an answer, with its detail where it has one. */
