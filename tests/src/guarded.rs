@@ -41,7 +41,11 @@ pub enum Placement {
     BeginsAtGuard,
     /// It begins a little after a guard page, bytes at an odd address.
     AfterGuard,
+    /// It begins so many times its alignment after a guard page, up to FARTHEST.
+    Farther(usize),
 }
+
+pub const FARTHEST: usize = 64;
 
 impl Placement {
     /// Each in its turn, most often the one that sees a step past the end.
@@ -66,13 +70,14 @@ impl<T: Copy> Lent<T> {
     /// Lends a copy that the call may write to.
     pub fn copy_of(items: &[T], placement: Placement) -> Lent<T> {
         let bytes = items.len() * size_of::<T>();
-        // One item more than needed: the pattern then has room in every placement.
-        let pages_bytes = (bytes + size_of::<T>()) / PAGE * PAGE + PAGE;
+        // Some items more than needed: the pattern then has room in every placement.
+        let pages_bytes = (bytes + FARTHEST * size_of::<T>()) / PAGE * PAGE + PAGE;
         let pages = guarded_pages(pages_bytes);
         let first = match placement {
             Placement::EndsAtGuard => pages_bytes - bytes,
             Placement::BeginsAtGuard => 0,
             Placement::AfterGuard => align_of::<T>(),
+            Placement::Farther(times) => times.min(FARTHEST) * align_of::<T>(),
         };
         // SAFETY: the pages can be written and hold the items from `first` on, which keeps T's
         // alignment: the pages begin and end at page bounds and sizes are multiples of it.
@@ -93,6 +98,13 @@ impl<T: Copy> Lent<T> {
         lent
     }
 
+    /// Lends nothing, by a null pointer with length 0.
+    pub fn null() -> Lent<T> {
+        let mut lent = Lent::copy_of(&[], Placement::EndsAtGuard);
+        lent.items = ptr::null_mut();
+        lent
+    }
+
     pub fn pointer(&self) -> *mut T {
         self.items
     }
@@ -103,13 +115,16 @@ impl<T: Copy> Lent<T> {
 
     /// The items as they are now.
     pub fn items(&self) -> &[T] {
+        if self.count == 0 {
+            return &[];
+        }
         // SAFETY: the items were written when they were lent, and a call writes whole items.
         unsafe { slice::from_raw_parts(self.items, self.count) }
     }
 
     /// True if every byte around the lent part still has its pattern.
     pub fn around_kept(&self) -> bool {
-        let first = self.items as usize - self.pages as usize;
+        let first = (self.items as usize).saturating_sub(self.pages as usize);
         let end = first + self.count * size_of::<T>();
         // SAFETY: these bytes lie in our pages, which can be read.
         (0..first)

@@ -1,5 +1,6 @@
 //! Every call of the product against the second program: replies, and the buffers afterwards.
 
+mod lending;
 mod making;
 mod questions;
 mod reading;
@@ -15,6 +16,7 @@ pub fn run(seed: u64, cases: usize) {
     making::run(seed, cases);
     reading::run(seed, cases);
     walks::run(seed, cases);
+    lending::run(seed, cases);
 }
 
 /// One test of many cases. Its first mismatch is printed whole.

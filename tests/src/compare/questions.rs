@@ -31,6 +31,11 @@ impl<'a> Asked<'a> {
         Asked { what, bytes, lent: Lent::shared(bytes, placement), placement }
     }
 
+    /// No file at all: a null pointer with length 0.
+    pub fn null(what: &'a str) -> Asked<'a> {
+        Asked { what, bytes: &[], lent: Lent::null(), placement: Placement::EndsAtGuard }
+    }
+
     /// The case whole: the question, where the file lay and every byte of it, a block a line.
     fn describe(&self, question: &Question) -> String {
         let mut text = format!("{:?} of {}, {:?}, file:", question, self.what, self.placement);
@@ -58,14 +63,26 @@ impl<'a> Asked<'a> {
                 group.same(&describe, "the reply", found, calls::leeway(self.bytes, word, job));
             }
             Question::Step { desk, event } => {
-                let lent = Lent::copy_of(&[desk], Placement::in_turn(number));
-                let found = described(&describe, || library::step(&self.lent, &lent, event));
-                let (reply, after) = calls::step(self.bytes, desk, event);
-                group.same(&describe, "the reply", found, reply);
-                group.same(&describe, "the desk", lent.items()[0], after);
-                group.same(&describe, "kept around the desk", lent.around_kept(), true);
+                self.step(group, desk, event, Placement::in_turn(number));
             }
         }
+    }
+
+    /// A step with its desk lent in a placement of the caller's choice.
+    pub fn step_at(&self, group: &mut Group, desk: Desk, event: u8, placement: Placement) {
+        group.next_case();
+        self.step(group, desk, event, placement);
+    }
+
+    fn step(&self, group: &mut Group, desk: Desk, event: u8, placement: Placement) {
+        let question = Question::Step { desk, event };
+        let describe = || self.describe(&question);
+        let lent = Lent::copy_of(&[desk], placement);
+        let found = described(&describe, || library::step(&self.lent, &lent, event));
+        let (reply, after) = calls::step(self.bytes, desk, event);
+        group.same(&describe, "the reply", found, reply);
+        group.same(&describe, "the desk", lent.items()[0], after);
+        group.same(&describe, "kept around the desk", lent.around_kept(), true);
     }
 }
 
@@ -138,7 +155,7 @@ fn likely_event(random: &mut Random) -> u8 {
     *random.pick(&[0, job, 16 + job, 32 + job])
 }
 
-fn any_desk(random: &mut Random) -> Desk {
+pub fn any_desk(random: &mut Random) -> Desk {
     let mut desk = Desk { now: random.byte(), elapsed: random.byte(), statuses: [0; 8] };
     let most = if random.once_in(2) { 4 } else { 256 };
     desk.statuses.iter_mut().for_each(|status| *status = random.below(most) as u8);
