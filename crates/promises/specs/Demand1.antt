@@ -7,14 +7,13 @@ use mathlib.Core.Path.{_≡_, refl, ap, _∙_}
 use mathlib.Core.Logic.{_≢_, _⊎_, inl, inr}
 use mathlib.Core.Bool.{Bool, true, false, cond, _&&_}
 use mathlib.Core.Option.{Option, none, some}
-use mathlib.Core.List.{List, _++_}
+use mathlib.Core.List.{List}
 use lib.ListN.{length, drop}
 use lib.Seq.{drop-at}
 use lib.Dec.{eqb}
 use Rattle.plant.specs.Plant.{Event}
 use Rattle.sheet.specs.Model.{next, word}
 use Rattle.sheet.specs.ModelTests.{possible}
-use Rattle.sheet.specs.Table.{Entry}
 use Rattle.state.specs.EventByte.{event-of, kind-of}
 use Rattle.blocks.specs.File.{bytes-of}
 use Rattle.blocks.specs.FileLaws.{length-bytes}
@@ -26,7 +25,6 @@ use Rattle.maker.specs.OneAnswer.{made-one}
 use Rattle.maker.specs.declared.MakeReply.{MakeReply}
 use Rattle.desk.specs.Stepping.{state-in, known, on, names, allows, stays, moves, in-row, asked, step-reply}
 use Rattle.desk.specs.declared.desk.Desk.{Desk}
-use Rattle.desk.specs.declared.step.Stepped.{Stepped}
 
 -- of a reply of make, and what stood before and stands after it in the work slice and the output
 pub record Kept (work₀ work out₀ out : List ℕ) (r : MakeReply) : Type 0 where

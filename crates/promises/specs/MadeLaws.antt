@@ -1,15 +1,15 @@
 -- What make answers and leaves, by the number of its reply. Assumes nothing.
-use Prim.Native.Nat.{ℕ, suc, _+_, _*_, _≤_, _<_}
+use Prim.Native.Nat.{ℕ, _≤_}
 use native.Mathlib.Omega.{arith}
-use mathlib.Core.Path.{_≡_, refl, sym, ap, subst, _∙_}
-use mathlib.Core.List.{List, [], _∷_, _++_, List·Memᴰ, List·Memᴰ·not-nil}
+use mathlib.Core.Path.{_≡_, ap, _∙_}
+use mathlib.Core.List.{List, [], _∷_, List·Memᴰ·not-nil}
 use lib.ListN.{length, take, drop}
 use lib.Seq.{take-at}
-use Rattle.plant.specs.Plant.{Live, Row, Safe, at-start}
+use Rattle.plant.specs.Plant.{Live, Safe, at-start}
 use Rattle.plant.specs.Lists.{Number, at-most}
 use Rattle.plant.specs.SafeLaws.{safe-live}
 use Rattle.plant.specs.TableLaws.{row-safe}
-use Rattle.sheet.specs.Model.{Sheet, Good, State, initial, plant}
+use Rattle.sheet.specs.Model.{Sheet, Good, initial, plant}
 use Rattle.sheet.specs.Table.{Entry, Rows}
 use Rattle.sheet.specs.RowsLaws.{rows-good, rows-number}
 use Rattle.blocks.specs.File.{bytes-of}
@@ -21,7 +21,7 @@ use Rattle.maker.specs.Growing.{most-live}
 use Rattle.maker.specs.Making.{lent, size-of, Answered, too-many, impossible, too-long, done, Made, bad-length, bad-job, no-room, answered}
 use Rattle.maker.specs.declared.MakeReply.{MakeReply}
 
-number-of : {r s : MakeReply} → r ≡ s → r .number ≡ s .number
+pub number-of : {r s : MakeReply} → r ≡ s → r .number ≡ s .number
 number-of e = ap (λ (x : MakeReply). x .number) e
 
 module _ (σ : Sheet) (sheet : Good σ) where

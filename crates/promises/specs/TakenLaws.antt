@@ -1,11 +1,11 @@
 -- What step takes in a state met under the table: exactly the events that are possible and that its row allows. Assumes nothing.
-use Prim.Native.Nat.{ℕ, _-_, _/_, _%_, _^_, _≤_, _<_}
+use Prim.Native.Nat.{ℕ, _-_, _/_, _%_, _^_}
 use native.Mathlib.Omega.{arith}
 use mathlib.Core.Path.{_≡_, refl, sym, ap, subst, _∙_}
 use mathlib.Core.Logic.{_⊎_, inl, inr}
 use mathlib.Core.Bool.{Bool, true, false, cond}
 use mathlib.Core.Option.{Option, none, some}
-use mathlib.Core.List.{List, [], _∷_, map, List·Memᴰ, List·Memᴰ·not-nil, List·Memᴰ·cases-cons}
+use mathlib.Core.List.{List, [], _∷_, List·Memᴰ, List·Memᴰ·not-nil, List·Memᴰ·cases-cons}
 use lib.Dec.{T, eqb}
 use borrow.Author.Tests.{eq-eqb, ne-eqb}
 use Rattle.plant.specs.Plant.{Event, tick, arrival, start, ending, Row, Safe}
@@ -15,14 +15,14 @@ use Rattle.plant.specs.Marks.{Code}
 use Rattle.plant.specs.Reflect.{Is, is-map, is-eq, is-and, is-le, is-not, is-true}
 use Rattle.plant.specs.SafeLaws.{safe-live}
 use Rattle.plant.specs.TableLaws.{row-safe, run-row}
-use Rattle.sheet.specs.Model.{Sheet, Good, Names, State, initial, Possible, next, word, plant}
-use Rattle.sheet.specs.ModelTests.{named, possible, is-possible}
+use Rattle.sheet.specs.Model.{Sheet, Good, State, initial, Possible, next, word, plant}
+use Rattle.sheet.specs.ModelTests.{possible, is-possible}
 use Rattle.sheet.specs.Table.{Entry, Ascending, Entry-of, Rows}
 use Rattle.sheet.specs.RowsLaws.{ascending-tail, ascending-below}
 use Rattle.sheet.specs.OrderLaws.{live-wordy}
 use Rattle.state.specs.EventByte.{event-of, kind-of, byte-of}
 use Rattle.state.specs.EventLaws.{event-byte, byte-event}
-use Rattle.table.specs.Reading.{Reading, good}
+use Rattle.table.specs.Reading.{good}
 use Rattle.table.specs.OneReading.{reading}
 use Rattle.table.specs.Replies.{told, lookup}
 use Rattle.desk.specs.Stepping.{desk-of, known, on, names, allows, stays, moves, asked, step-reply}
@@ -74,14 +74,14 @@ module _ (σ : Sheet) (sheet : Good σ) (rows : List Entry) (right : Rows σ row
   named-possible q (ending i) p = (p .0 .0, omega (arith, p .0 .1, sheet .few-jobs))
 
   module _ (q : State) (row : Row (plant σ) q) where
-    entry : Entry
+    pub entry : Entry
     entry = right .every q row .0
 
-    of-state : Entry-of σ q entry
+    pub of-state : Entry-of σ q entry
     unfolding entry
     of-state = right .every q row .2
 
-    found : lookup (word q) rows ≡ told entry
+    pub found : lookup (word q) rows ≡ told entry
     unfolding entry
     found = subst (λ (w : ℕ). lookup w rows ≡ told entry) (of-state .word) (lookup-there rows (right .ascending) entry (right .every q row .1))
 
@@ -149,17 +149,24 @@ module _ (σ : Sheet) (sheet : Good σ) (rows : List Entry) (right : Rows σ row
             let p = took q row e (ap (λ (s : Stepped). s .reply .number) (sym same) ∙ zero-then (some e) k) in
             (more e (w .0) (p .0) (p .1), ap (λ (s : Stepped). s .desk) (reply (some e) k ∙ (same ∙ takes q row e (p .0) (p .1))))
 
+    -- the step of an event of a run
+    reply-is : {g : List Event} → Follows g → (e : Event) → Possible σ (reached (plant σ) g) e → Allowed (plant σ) (reached (plant σ) g) e
+        → step-reply (desk-of (reached (plant σ) g)) (byte-of e) (reading file) ≡ moves (next σ (reached (plant σ) g) e)
+    reply-is {g} r e p a =
+        let q = reached (plant σ) g in
+        ap (step-reply (desk-of q) (byte-of e)) read
+        ∙ (ap (on (stays 9 0 (desk-of q)) (asked σ rows (desk-of q))) (event-byte e (named-possible q e p))
+        ∙ takes q (run-row (plant σ) safe r) e p a)
+
+    -- LAW: an event that is possible after a run, and that the table allows, is taken
+    pub step-takes : {g : List Event} → Follows g → (e : Event) → Possible σ (reached (plant σ) g) e → Allowed (plant σ) (reached (plant σ) g) e
+        → step-reply (desk-of (reached (plant σ) g)) (byte-of e) (reading file) .reply .number ≡ 0
+    step-takes r e p a = ap (λ (t : Stepped). t .reply .number) (reply-is r e p a)
+
     -- LAW: every run of the table is such a night
     pub run-night : {g : List Event} → Follows g → Night file (bytes g) (desk-of (reached (plant σ) g))
     run-night begin = opened
-    run-night (more {h = g} e r p a) =
-        let q = reached (plant σ) g in
-        let row = run-row (plant σ) safe r in
-        let s : step-reply (desk-of q) (byte-of e) (reading file) ≡ moves (next σ q e) =
-        ap (step-reply (desk-of q) (byte-of e)) read
-        ∙ (ap (on (stays 9 0 (desk-of q)) (asked σ rows (desk-of q))) (event-byte e (named-possible q e p))
-        ∙ takes q row e p a) in
-        subst (Night file (bytes (e ∷ g))) (ap (λ (t : Stepped). t .desk) s) (taken (byte-of e) (run-night r) (ap (λ (t : Stepped). t .reply .number) s))
+    run-night (more {h = g} e r p a) = subst (Night file (bytes (e ∷ g))) (ap (λ (t : Stepped). t .desk) (reply-is r e p a)) (taken (byte-of e) (run-night r) (step-takes r e p a))
 
     -- the events of the bytes of a run are the run's
     pub events-bytes : {g : List Event} → Follows g → events (bytes g) ≡ g
