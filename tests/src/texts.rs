@@ -29,7 +29,8 @@ pub fn run(program: &str, seed: u64, cases: usize) {
 /// 01's example whole, and what 01 says of sheets 3, 8, 10 and 11.
 fn worked_by_hand(program: &str) -> Outcome {
     let shown = |text: &str| {
-        printed(program, text.as_bytes()).map(|bytes| String::from_utf8_lossy(&bytes).into_owned())
+        printed(program, &[], text.as_bytes())
+            .map(|bytes| String::from_utf8_lossy(&bytes).into_owned())
     };
     let example = "jobs 1 states 5\n0 0 0 - none\n0 0 1 1 held\n0 0 2 - open\n0 0 3 - open\n\
                    1 1 2 - none\n";
@@ -56,7 +57,7 @@ fn all_same(program: &str, texts: &Vec<Vec<u8>>) -> Outcome {
 }
 
 fn same_text(program: &str, text: &[u8]) -> Outcome {
-    let found = printed(program, text)?;
+    let found = printed(program, &[], text)?;
     let wanted = print(text);
     if found == wanted {
         return Ok(());
@@ -65,8 +66,9 @@ fn same_text(program: &str, text: &[u8]) -> Outcome {
     Err(format!("{:?} prints {:?}, not {:?}", shown(text), shown(&found), shown(&wanted)))
 }
 
-fn printed(program: &str, text: &[u8]) -> Result<Vec<u8>, String> {
+pub fn printed(program: &str, words: &[&str], text: &[u8]) -> Result<Vec<u8>, String> {
     let mut child = Command::new(program)
+        .args(words)
         .stdin(Stdio::piped())
         .stdout(Stdio::piped())
         .spawn()
@@ -84,7 +86,7 @@ fn printed(program: &str, text: &[u8]) -> Result<Vec<u8>, String> {
 }
 
 /// A line a job, each ended by byte 10.
-fn text_of(numbers: &[u16]) -> Vec<u8> {
+pub fn text_of(numbers: &[u16]) -> Vec<u8> {
     let line = |job: &[u16]| format!("{} {} {} {}\n", job[0], job[1], job[2], job[3]);
     numbers.chunks(4).map(line).collect::<String>().into_bytes()
 }
