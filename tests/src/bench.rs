@@ -25,7 +25,7 @@ pub fn run() {
 }
 
 /// The calls' answers are added up and looked at, so that no call can be left out.
-fn fastest(mut call: impl FnMut() -> usize) -> f64 {
+pub fn fastest(mut call: impl FnMut() -> usize) -> f64 {
     let begin = Instant::now();
     let mut least = f64::MAX;
     let mut answers = 0;
@@ -38,7 +38,7 @@ fn fastest(mut call: impl FnMut() -> usize) -> f64 {
     least * 1e6
 }
 
-fn print_times(what: &str, plain: f64, others: &[(&str, f64)]) {
+pub fn print_times(what: &str, plain: f64, others: &[(&str, f64)]) {
     let mut line = format!("{}: second program {:.1}", what, plain);
     for (name, time) in others {
         line += &format!(", {} {:.1} ({:.2} of it)", name, time, time / plain);

@@ -3,9 +3,11 @@
 //! `self` holds the second program to the sheets worked by hand, to counts at the limits and to
 //! files whose form was settled by hand. `compare` holds every call of the product to the second
 //! program; it is there when the product's library is linked. `text` does the same for the
-//! printing program, named by its path. `bench` measures.
+//! printing program, named by its path. `bench` measures the calls and, where it is named, that
+//! program. `print` is the second program's printing program, or the tuned one's.
 
 mod bench;
+mod bench_print;
 mod buffers;
 mod clauses;
 #[cfg(linked)]
@@ -28,6 +30,7 @@ mod sheets;
 mod tally;
 mod texts;
 mod tuned;
+mod tuned_text;
 mod worked;
 
 use std::env;
@@ -36,7 +39,8 @@ use std::process::ExitCode;
 const USAGE: &str = "usage: tests self
        tests compare [--seed N] [--cases N]
        tests text PROGRAM [--seed N] [--cases N]
-       tests bench";
+       tests bench [PROGRAM]
+       tests print [tuned]";
 
 fn main() -> ExitCode {
     let arguments: Vec<String> = env::args().skip(1).collect();
@@ -52,10 +56,16 @@ fn main() -> ExitCode {
             Some((seed, cases)) => texts::run(program, seed, cases),
             None => return usage(),
         },
-        Some((&"bench", [])) => {
+        Some((&"bench", rest @ ([] | [_]))) => {
             bench::run();
+            bench_print::steps();
+            rest.iter().for_each(|program| bench_print::processes(program));
             return ExitCode::SUCCESS;
         }
+        Some((&"print", rest @ ([] | ["tuned"]))) => match bench_print::print(!rest.is_empty()) {
+            Ok(()) => return ExitCode::SUCCESS,
+            Err(_) => return ExitCode::FAILURE,
+        },
         _ => return usage(),
     }
     if tally::close() {

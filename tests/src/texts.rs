@@ -4,7 +4,7 @@ use crate::found;
 use crate::random::Random;
 use crate::second::text::print;
 use crate::sheets::{self, KINDS};
-use crate::tally::{test, Outcome};
+use crate::tally::{same, test, Outcome};
 use crate::worked::{S1, S2};
 use std::io::Write;
 use std::process::{Command, Stdio};
@@ -14,6 +14,7 @@ pub fn run(program: &str, seed: u64, cases: usize) {
     let mut random = Random::new(seed + 300);
     let known: Vec<Vec<u8>> = [S1.to_vec(), S2.to_vec()].iter().map(|s| text_of(s)).collect();
     test("prints the worked sheets", all_same(program, &known));
+    test("prints the answers worked by hand", worked_by_hand(program));
     let limits: Vec<Vec<u8>> = found::all().iter().map(|s| text_of(&s.numbers())).collect();
     test("prints the sheets at the limits", all_same(program, &limits));
     let later = found::MOST_LIVE.iter().map(|sheet| text_of(&sheet.one_tick_later())).collect();
@@ -25,12 +26,38 @@ pub fn run(program: &str, seed: u64, cases: usize) {
     test("answers texts with a byte changed", all_same(program, &changed));
 }
 
+/// 01's example whole, and what 01 says of sheets 3, 8, 10 and 11.
+fn worked_by_hand(program: &str) -> Outcome {
+    let shown = |text: &str| {
+        printed(program, &[], text.as_bytes())
+            .map(|bytes| String::from_utf8_lossy(&bytes).into_owned())
+    };
+    let example = "jobs 1 states 5\n0 0 0 - none\n0 0 1 1 held\n0 0 2 - open\n0 0 3 - open\n\
+                   1 1 2 - none\n";
+    let whole = [
+        ("0 1 1 1\n", example),
+        ("0 1 2 2\n0 1 1 2\n", "refused 5 0\n"),
+        ("0 255 255 255\n", "refused 4 0\n"),
+        ("1 255 255 255\n", "refused 2 1\n"),
+        ("0 0 1 1\n", "refused 2 1\n"),
+    ];
+    for (text, wanted) in whole {
+        same(text, shown(text)?, wanted.to_string())?;
+    }
+    let table = shown("0 2 4 7\n1 1 2 4\n")?;
+    let lines = ["jobs 2 states 20", "0 0 10 - open", "1 0 11 2 held", "7 4 23 - none"];
+    match lines.into_iter().find(|line| !table.lines().any(|printed| printed == *line)) {
+        Some(line) => Err(format!("S2's table has no line {:?}", line)),
+        None => Ok(()),
+    }
+}
+
 fn all_same(program: &str, texts: &Vec<Vec<u8>>) -> Outcome {
     texts.iter().try_for_each(|text| same_text(program, text))
 }
 
 fn same_text(program: &str, text: &[u8]) -> Outcome {
-    let found = printed(program, text)?;
+    let found = printed(program, &[], text)?;
     let wanted = print(text);
     if found == wanted {
         return Ok(());
@@ -39,8 +66,9 @@ fn same_text(program: &str, text: &[u8]) -> Outcome {
     Err(format!("{:?} prints {:?}, not {:?}", shown(text), shown(&found), shown(&wanted)))
 }
 
-fn printed(program: &str, text: &[u8]) -> Result<Vec<u8>, String> {
+pub fn printed(program: &str, words: &[&str], text: &[u8]) -> Result<Vec<u8>, String> {
     let mut child = Command::new(program)
+        .args(words)
         .stdin(Stdio::piped())
         .stdout(Stdio::piped())
         .spawn()
@@ -58,7 +86,7 @@ fn printed(program: &str, text: &[u8]) -> Result<Vec<u8>, String> {
 }
 
 /// A line a job, each ended by byte 10.
-fn text_of(numbers: &[u16]) -> Vec<u8> {
+pub fn text_of(numbers: &[u16]) -> Vec<u8> {
     let line = |job: &[u16]| format!("{} {} {} {}\n", job[0], job[1], job[2], job[3]);
     numbers.chunks(4).map(line).collect::<String>().into_bytes()
 }

@@ -2,5 +2,5 @@
 pub mod judge;
 pub mod leeway;
 pub mod listing;
-mod place;
+pub mod place;
 pub mod row;

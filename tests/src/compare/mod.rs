@@ -4,6 +4,7 @@ mod lending;
 mod making;
 mod questions;
 mod reading;
+mod stored;
 mod walks;
 
 use crate::guarded::watch_for_faults;
@@ -13,6 +14,7 @@ use std::fmt::Debug;
 /// Random cases are the same for the same seed; `cases` says how many a group has.
 pub fn run(seed: u64, cases: usize) {
     watch_for_faults();
+    stored::run();
     making::run(seed, cases);
     reading::run(seed, cases);
     walks::run(seed, cases);

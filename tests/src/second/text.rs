@@ -19,7 +19,7 @@ fn refused(refusal: Refusal) -> Vec<u8> {
 }
 
 /// 1 to 8 lines of four numbers, each line ended by byte 10.
-fn numbers_in(text: &[u8]) -> Option<Vec<u16>> {
+pub fn numbers_in(text: &[u8]) -> Option<Vec<u16>> {
     let without_end = text.strip_suffix(b"\n")?;
     let lines: Vec<&[u8]> = without_end.split(|&byte| byte == b'\n').collect();
     if lines.len() > MOST_JOBS {
