@@ -9,6 +9,7 @@ use crate::second::calls::{self, table_of, WORK_WORDS};
 use crate::second::file::write;
 use crate::second::sheet::Sheet;
 use crate::tuned;
+use crate::tuned_read;
 use std::time::{Duration, Instant};
 
 /// Each is called until this much time has passed; the fastest call counts.
@@ -65,7 +66,9 @@ fn row(sheet: &Found) {
     let file = write(&table.sheet, &table.rows);
     let word = table.rows[table.rows.len() / 2].word;
     let plain = fastest(|| usize::from(calls::row(&file, word).tick));
-    print_times(&format!("row, {}", sheet.what), plain, &product_row(&file, word));
+    let mut others = vec![("tuned", fastest(|| usize::from(tuned_read::row(&file, word).tick)))];
+    others.extend(product_row(&file, word));
+    print_times(&format!("row, {}", sheet.what), plain, &others);
 }
 
 #[cfg(linked)]

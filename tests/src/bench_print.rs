@@ -17,6 +17,7 @@ use crate::second::state::State;
 use crate::second::text;
 use crate::texts::{printed, text_of};
 use crate::tuned;
+use crate::tuned_read;
 use crate::tuned_text;
 use std::env;
 use std::io::{self, Read, Write};
@@ -34,7 +35,10 @@ fn step(sheet: &Found) {
     let file = write(&table.sheet, &table.rows);
     let desk = State::finished(&table.sheet).desk();
     let plain = fastest(|| calls::step(&file, desk, 0).0.number as usize + 1);
-    print_times(&format!("step, {}", sheet.what), plain, &product_step(&file, desk));
+    let mut others =
+        vec![("tuned", fastest(|| tuned_read::step(&file, desk, 0).0.number as usize + 1))];
+    others.extend(product_step(&file, desk));
+    print_times(&format!("step, {}", sheet.what), plain, &others);
 }
 
 #[cfg(linked)]

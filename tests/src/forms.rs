@@ -9,6 +9,7 @@ use crate::second::calls::table_of;
 use crate::second::file::{write, MOST_BLOCKS, SLOTS};
 use crate::second::form::{read, Table};
 use crate::tally::{same, test, Outcome};
+use crate::tuned_read;
 use crate::worked::{S1, S2};
 
 pub fn run() {
@@ -23,6 +24,32 @@ pub fn run() {
     test("foreign tables are read back, 7,874 rows at most", foreign_files());
     test("every changed bit is found", bits());
     test("any bytes are answered with a block that is there", any_bytes());
+    test("the tuned reader says the same", tuned_agrees());
+}
+
+/// What is measured against the product asks the same rules.
+fn tuned_agrees() -> Outcome {
+    let mut random = Random::new(5);
+    for case in clauses::all() {
+        let table = foreign::table(&case.sheet, 4 * SLOTS, &mut random);
+        both_say(&case.alone())?;
+        both_say(&case.among(&table).0)?;
+    }
+    let mut sheets = vec![S1.to_vec(), S2.to_vec()];
+    sheets.extend(BLOCK_EDGES[..5].iter().map(|sheet| sheet.numbers()));
+    for numbers in sheets {
+        let table = made(&numbers)?;
+        let file = write(&table.sheet, &table.rows);
+        damage::all(&table).iter().try_for_each(|damaged| both_say(&damaged.file))?;
+        for _ in 0..400 {
+            both_say(&damage::bit_flipped(&file, true, &mut random).file)?;
+        }
+    }
+    Ok(())
+}
+
+fn both_say(file: &[u8]) -> Outcome {
+    same("the lowest bad block", tuned_read::read(file).err(), read(file).err())
 }
 
 fn form_of(file: &[u8]) -> Wanted {

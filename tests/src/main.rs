@@ -30,6 +30,7 @@ mod sheets;
 mod tally;
 mod texts;
 mod tuned;
+mod tuned_read;
 mod tuned_text;
 mod worked;
 

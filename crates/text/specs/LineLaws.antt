@@ -17,13 +17,9 @@ use Rattle.sheet.specs.Form.{digits, state-of}
 use Rattle.sheet.specs.WordLaws.{length-digits, digits-lt}
 use Rattle.blocks.specs.Sizes.{most-jobs}
 use Rattle.text.specs.Digits.{digit, decimal}
-use Rattle.text.specs.Lines.{line, statuses-text, job-text, jobs-text, or-dash, tick-word, header-line, row-line, refusal-text, line-bytes}
-use Rattle.text.specs.Parts.{pair-line, state-part, marks-part, state-bytes, marks-bytes}
+use Rattle.text.specs.Lines.{line, statuses-text, job-text, jobs-text, or-dash, tick-word, header-line, row-line, line-bytes}
+use Rattle.text.specs.Parts.{state-part, marks-part, state-bytes, marks-bytes}
 use Rattle.text.specs.DigitsLaws.{length-8, length-32}
-
-pub pair-length : (first : List ℕ) (a : ℕ) (second : List ℕ) (b : ℕ)
-    → length (pair-line first a second b) ≡ length first + (length (decimal a) + (length second + (length (decimal b) + 1)))
-pair-length first a second b = simp length-append
 
 pub row-parts : (n : ℕ) (e : Entry) → row-line n e ≡ state-part n (state-of (e .word)) ++ marks-part n (e .starts) (e .tick)
 unfolding line
@@ -113,7 +109,3 @@ row-length n e h k =
     rw (row-parts n e, length-append (state-part n (state-of (e .word))) (marks-part n (e .starts) (e .tick)))
     (let m : length (marks-part n (e .starts) (e .tick)) ≤ marks-bytes = simp length-append (omega (arith, starts-length n (e .starts) h, tick-length (e .tick))) in
     omega (arith, state-length n (e .word) h k))
-
-pub refusal-length : (number detail : ℕ) → number < 2 ^ 32 → detail < 2 ^ 32 → length (refusal-text number detail) ≤ line-bytes
-unfolding line
-refusal-length number detail h k = simp length-append (omega (arith, length-32 number h, length-32 detail k))

@@ -46,7 +46,7 @@ fn put_number(out: &mut [u8], at: usize, n: u32) -> usize
 
 // Prints a line with two numbers, each behind its words.
 fn put_pair(out: &mut [u8], at: usize, first: &[u8], a: u32, second: &[u8], b: u32) -> usize
-    requires { ⌜ at + length (pair-line (now first) a (now second) b) ≤ length (now out) ⌝ }
+    requires { ⌜ at + (length (now first) + (length (decimal a) + (length (now second) + (length (decimal b) + 1)))) ≤ length (now out) ⌝ }
     ensures { λ r. ⌜ Printed (now (out .entry)) at (pair-line (now (first .entry)) a (now (second .entry)) b) r (now (out .exit)) ⌝ }
 {
     let at = put(out, at, first);

@@ -1,7 +1,7 @@
 -- `put_header`: the two numbers and their words are the header's fields. Assumes nothing.
 use native.Mathlib.Omega.{arith}
 use Rattle.text.specs.Lines.{line}
-use Rattle.text.specs.LineLaws.{header-length}
+use Rattle.text.specs.DigitsLaws.{length-8, length-32}
 use borrow.Author.Needs.{needs}
 use Rattle.text.proofs.print.put_header.Statement.{statement}
 use Rattle.text.proofs.print.put_header.Tie as tie
@@ -13,8 +13,7 @@ slice-aggregate-put-pair-2 : tie.Need-slice-aggregate-put-pair-2
 slice-aggregate-put-pair-2 c = search needs
 
 put-pair-requires : tie.Need-put-pair-requires
-unfolding line
-put-pair-requires c κs = let b = c .before .before .before .before in omega (arith, header-length (b .args .n) (b .args .rows) (b .fits .n .fits) (b .fits .rows .fits))
+put-pair-requires c κs = let b = c .before .before .before .before in omega (arith, length-8 (b .args .n) (b .fits .n .fits), length-32 (b .args .rows) (b .fits .rows .fits))
 
 same-length : tie.Need-same-length
 same-length c = search needs

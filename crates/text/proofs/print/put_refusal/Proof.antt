@@ -1,7 +1,7 @@
 -- `put_refusal`: the two numbers and their words are the refusal's fields. Assumes nothing.
 use native.Mathlib.Omega.{arith}
 use Rattle.text.specs.Lines.{line}
-use Rattle.text.specs.LineLaws.{refusal-length}
+use Rattle.text.specs.DigitsLaws.{length-32}
 use borrow.Author.Needs.{needs}
 use Rattle.text.proofs.print.put_refusal.Statement.{statement}
 use Rattle.text.proofs.print.put_refusal.Tie as tie
@@ -13,8 +13,7 @@ slice-aggregate-put-pair-2 : tie.Need-slice-aggregate-put-pair-2
 slice-aggregate-put-pair-2 c = search needs
 
 put-pair-requires : tie.Need-put-pair-requires
-unfolding line
-put-pair-requires c κs = let b = c .before .before .before .before in omega (arith, refusal-length (b .args .number) (b .args .detail) (b .fits .number .fits) (b .fits .detail .fits))
+put-pair-requires c κs = let b = c .before .before .before .before in omega (arith, length-32 (b .args .number) (b .fits .number .fits), length-32 (b .args .detail) (b .fits .detail .fits))
 
 same-length : tie.Need-same-length
 same-length c = search needs
