@@ -1,4 +1,5 @@
 -- The maker.
+pub mod HintLaws
 pub mod Growing
 pub mod GrowingLaws
 pub mod FollowsLaws
