@@ -3,7 +3,7 @@
 //! `self` holds the second program to the sheets worked by hand, to counts at the limits and to
 //! files whose form was settled by hand. `compare` holds every call of the product to the second
 //! program; it is there when the product's library is linked. `text` does the same for the
-//! printing program, named by its path. `bench` measures.
+//! printing program, named by its path. `bench` measures; `once` makes one table, for `phases`.
 
 mod bench;
 mod buffers;
@@ -36,7 +36,8 @@ use std::process::ExitCode;
 const USAGE: &str = "usage: tests self
        tests compare [--seed N] [--cases N]
        tests text PROGRAM [--seed N] [--cases N]
-       tests bench";
+       tests bench
+       tests once PLACE BYTES";
 
 fn main() -> ExitCode {
     let arguments: Vec<String> = env::args().skip(1).collect();
@@ -56,6 +57,11 @@ fn main() -> ExitCode {
             bench::run();
             return ExitCode::SUCCESS;
         }
+        #[cfg(linked)]
+        Some((&"once", [place, bytes])) => match (place.parse(), bytes.parse()) {
+            (Ok(place), Ok(bytes)) if bench::once(place, bytes) => return ExitCode::SUCCESS,
+            _ => return usage(),
+        },
         _ => return usage(),
     }
     if tally::close() {
