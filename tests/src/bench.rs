@@ -8,6 +8,7 @@ use crate::library;
 use crate::second::calls::{self, table_of, WORK_WORDS};
 use crate::second::file::write;
 use crate::second::sheet::Sheet;
+use crate::second::table::{Live, MOST_LIVE};
 use crate::tuned;
 use crate::tuned_read;
 use std::time::{Duration, Instant};
@@ -20,8 +21,40 @@ pub fn run() {
     for sheet in found::all() {
         make(sheet);
     }
+    for due in GROWING_DUES {
+        growth(due);
+    }
     for sheet in found::all().iter().filter(|sheet| sheet.rows > 7_000) {
         row(sheet);
+    }
+}
+
+/// Makes the table of the sheet at a place of `found::all()` once, for `phases`. An output that is
+/// too short leaves the writing out.
+#[cfg(linked)]
+pub fn once(place: usize, bytes: usize) -> bool {
+    let Some(sheet) = found::all().get(place).copied() else {
+        return false;
+    };
+    let numbers = Lent::shared(&sheet.numbers(), Placement::EndsAtGuard);
+    let work = Lent::copy_of(&vec![0; WORK_WORDS], Placement::EndsAtGuard);
+    let out = Lent::copy_of(&vec![0; bytes], Placement::EndsAtGuard);
+    let number = library::make(&numbers, &work, &out).number;
+    println!("{}: number {}, {} live states", sheet.what, number, sheet.live);
+    true
+}
+
+/// Due ticks of the first of three jobs; their sheets have about 1,000, 2,000, 4,000 and 7,874 live states.
+const GROWING_DUES: [u16; 4] = [29, 58, 114, 224];
+
+/// How the time of make grows: n live states are searched by halves, so n log n is what to expect at most.
+fn growth(due: u16) {
+    let numbers = [2, 1, 1, due, 0, 1, 2, due + 5, 3, 1, 1, due + 1];
+    let jobs = Sheet::of_numbers(&numbers).expect("good length");
+    let live = Live::of_sheet(&jobs, MOST_LIVE).expect("few enough").count() as f64;
+    for (name, time) in product_make(&numbers) {
+        let each = 1_000.0 * time / (live * live.log2());
+        println!("growth, {live} live states: {name} {time:.1}, {each:.2} ns for each state and doubling");
     }
 }
 

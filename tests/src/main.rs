@@ -4,7 +4,8 @@
 //! files whose form was settled by hand. `compare` holds every call of the product to the second
 //! program; it is there when the product's library is linked. `text` does the same for the
 //! printing program, named by its path. `bench` measures the calls and, where it is named, that
-//! program. `print` is the second program's printing program, or the tuned one's.
+//! program. `print` is the second program's printing program, or the tuned one's. `once` makes one
+//! table, for `phases`.
 
 mod bench;
 mod bench_print;
@@ -41,7 +42,8 @@ const USAGE: &str = "usage: tests self
        tests compare [--seed N] [--cases N]
        tests text PROGRAM [--seed N] [--cases N]
        tests bench [PROGRAM]
-       tests print [tuned]";
+       tests print [tuned]
+       tests once PLACE BYTES";
 
 fn main() -> ExitCode {
     let arguments: Vec<String> = env::args().skip(1).collect();
@@ -66,6 +68,11 @@ fn main() -> ExitCode {
         Some((&"print", rest @ ([] | ["tuned"]))) => match bench_print::print(!rest.is_empty()) {
             Ok(()) => return ExitCode::SUCCESS,
             Err(_) => return ExitCode::FAILURE,
+        },
+        #[cfg(linked)]
+        Some((&"once", [place, bytes])) => match (place.parse(), bytes.parse()) {
+            (Ok(place), Ok(bytes)) if bench::once(place, bytes) => return ExitCode::SUCCESS,
+            _ => return usage(),
         },
         _ => return usage(),
     }

@@ -1,13 +1,16 @@
 -- The maker.
+pub mod HintLaws
 pub mod Growing
 pub mod GrowingLaws
 pub mod FollowsLaws
 pub mod RaisedLaws
 pub mod Marking
 pub mod MarkingLaws
+pub mod Looked
 pub mod MarkedLaws
 pub mod LeadsLaws
 pub mod TouchedLaws
+pub mod LookedLaws
 pub mod PushedLaws
 pub mod TellLaws
 pub mod Gathering
