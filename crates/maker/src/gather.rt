@@ -5,9 +5,9 @@ ghost use Prim.Native.Nat.{_+_, _/_, _≤_, _<_};
 ghost use lib.Dec.{leb};
 ghost use lib.ListN.{length, getD, set};
 ghost use Rattle.ascending.specs.Ascending.{work-words};
-ghost use Rattle.maker.specs.Growing.{most-live};
+ghost use Rattle.live.specs.Growing.{most-live};
 ghost use Rattle.maker.specs.Gathering.{moved, Gathered};
-use crate::grow::LIVE;
+use live::LIVE;
 
 // Moves what stands at place i to place m, where it is a row, its mark without the stage; answers the place behind the rows.
 fn keep_row(work: &mut [u32], i: usize, m: usize) -> usize

@@ -18,7 +18,7 @@ use Rattle.blocks.specs.Sizes.{block-bytes, most-blocks, most-rows}
 use Rattle.blocks.specs.File.{bytes-of}
 use Rattle.blocks.specs.FileLaws.{length-bytes}
 use Rattle.ascending.specs.Ascending.{work-words}
-use Rattle.maker.specs.Growing.{most-live}
+use Rattle.live.specs.Growing.{most-live}
 use Rattle.maker.specs.Making.{Sheet-length, lent, size-of, Made, Answered}
 use Rattle.maker.specs.Making as making
 use Rattle.maker.specs.declared.MakeReply.{MakeReply}

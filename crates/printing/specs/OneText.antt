@@ -13,7 +13,7 @@ use Rattle.sheet.specs.Model.{Sheet, Good, plant}
 use Rattle.sheet.specs.RowsLaws.{rows-one}
 use Rattle.state.specs.Lowest.{lowest-bad}
 use Rattle.state.specs.LowestLaws.{good-sheet}
-use Rattle.maker.specs.Growing.{most-live}
+use Rattle.live.specs.Growing.{most-live}
 use Rattle.maker.specs.Making.{lent}
 use Rattle.text.specs.Lines.{listing-text}
 use Rattle.text.specs.SheetText.{Spells}

@@ -15,7 +15,7 @@ use Rattle.blocks.specs.Sizes.{letter-t}
 use Rattle.table.specs.Reading.{Reading, good, bad}
 use Rattle.table.specs.ReadingLaws.{at-block, jobs-framed}
 use Rattle.table.specs.OneReading.{reading, reading-says}
-use Rattle.maker.specs.Growing.{most-live}
+use Rattle.live.specs.Growing.{most-live}
 use Rattle.maker.specs.Making.{lent, Answered, too-many, impossible, too-long, done, Made, bad-length, bad-job, no-room, answered}
 use Rattle.maker.specs.declared.MakeReply.{MakeReply}
 use Rattle.desk.specs.Stepping.{desk-of, step-reply}

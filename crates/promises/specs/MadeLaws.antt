@@ -17,7 +17,7 @@ use Rattle.blocks.specs.FileLaws.{length-bytes}
 use Rattle.table.specs.Reading.{Table, good}
 use Rattle.table.specs.OneReading.{reading}
 use Rattle.table.specs.TableBytes.{read-back}
-use Rattle.maker.specs.Growing.{most-live}
+use Rattle.live.specs.Growing.{most-live}
 use Rattle.maker.specs.Making.{lent, size-of, Answered, too-many, impossible, too-long, done, Made, bad-length, bad-job, no-room, answered}
 use Rattle.maker.specs.declared.MakeReply.{MakeReply}
 

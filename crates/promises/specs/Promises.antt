@@ -10,7 +10,7 @@ use Rattle.plant.specs.Rule.{Rule, Admissible}
 use Rattle.plant.specs.Lists.{Number}
 use Rattle.sheet.specs.Model.{Good, plant}
 use Rattle.ascending.specs.Ascending.{work-words}
-use Rattle.maker.specs.Growing.{most-live}
+use Rattle.live.specs.Growing.{most-live}
 use Rattle.maker.specs.Making.{Sheet-length, lent, Made}
 use Rattle.maker.specs.declared.MakeReply.{MakeReply}
 use Rattle.promises.specs.Demand1.{Kept, made-kept}

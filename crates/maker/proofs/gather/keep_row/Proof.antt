@@ -5,7 +5,7 @@ use borrow.Author.Needs.{needs}
 use borrow.Author.Tests.{le-leb, lt-leb}
 use mathlib.Core.Path.{_≡_, refl}
 use lib.ListN.{getD, length-set}
-use Rattle.maker.specs.Growing.{most-live}
+use Rattle.live.specs.Growing.{most-live}
 use Rattle.maker.proofs.gather.keep_row.Statement.{statement}
 use Rattle.maker.proofs.gather.keep_row.Tie as tie
 
