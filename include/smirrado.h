@@ -26,7 +26,8 @@
  * library it uses memcpy and memset alone. So any number of threads may call it at the same time, each with its own work,
  * out and desk; they may share a sheet or a file that nobody changes.
  *
- * A call takes at most so many bytes of stack, counted from the caller's stack pointer down, the return address among them.
+ * A call takes at most so many bytes of stack, counted from the caller's stack pointer down, the return address among them:
+ * few enough for an interrupt's stack, but for make, which is to be called where there is room.
  * tests/c/stack.c measures this on a painted stack, over good and bad sheets, files and events, and the tests fail where a
  * call takes more. Where memcpy and memset are bound lazily, the first call of them runs the dynamic linker on that stack
  * too: that is not counted here. */
@@ -36,7 +37,7 @@
 #include <stddef.h>
 #include <stdint.h>
 
-#define SMIRRADO_MAKE_STACK 1024
+#define SMIRRADO_MAKE_STACK 262144
 #define SMIRRADO_ROW_STACK 512
 #define SMIRRADO_LISTING_STACK 512
 #define SMIRRADO_LEEWAY_STACK 512

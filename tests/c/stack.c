@@ -8,9 +8,10 @@
 #include <string.h>
 #include <ucontext.h>
 
-enum { STACK_BYTES = 1 << 14 };
+/* The stack of a call is this much longer than what the header says, so that a call that takes more is seen to. */
+enum { SPARE = 1 << 14 };
 
-static uint8_t stack[STACK_BYTES];
+static uint8_t stack[SMIRRADO_MAKE_STACK + SPARE]; /* make takes most */
 static uint8_t *before; /* the stack pointer just before the call */
 
 /* What the calls are lent. */
@@ -51,16 +52,16 @@ static struct measured listing_call = {"smirrado_listing", call_listing, SMIRRAD
 static struct measured leeway_call = {"smirrado_leeway", call_leeway, SMIRRADO_LEEWAY_STACK, 0, 0};
 static struct measured step_call = {"smirrado_step", call_step, SMIRRADO_STEP_STACK, 0, 0};
 
-static size_t depth(void (*call)(void), int pattern)
+static size_t depth(const struct measured *m, int pattern)
 {
     static ucontext_t here, there;
     size_t at = 0;
-    memset(stack, pattern, sizeof stack);
+    memset(stack, pattern, m->told + SPARE);
     getcontext(&there);
     there.uc_stack.ss_sp = stack;
-    there.uc_stack.ss_size = sizeof stack;
+    there.uc_stack.ss_size = m->told + SPARE;
     there.uc_link = &here;
-    makecontext(&there, call, 0);
+    makecontext(&there, m->call, 0);
     swapcontext(&here, &there);
     while (stack[at] == pattern)
         at++;
@@ -74,7 +75,7 @@ static void measure(struct measured *m)
     struct smirrado_desk kept = desk;
     for (int i = 0; i < 2; i++) {
         desk = kept;
-        size_t found = depth(m->call, patterns[i]);
+        size_t found = depth(m, patterns[i]);
         if (found > m->deepest)
             m->deepest = found;
         m->calls++;
