@@ -15,10 +15,10 @@ use Rattle.form.proofs.row.pass.Statement.{statement}
 use Rattle.form.proofs.row.pass.Tie as tie
 
 abbrev Inv-loop : tie.InvT-loop
-Inv-loop n word starts code jobs now elapsed opens running₀ held₀ k₀ running held k = (k ≤ n) × Tells (sheet-of jobs n) (state-of word) starts code k (Passed running held)
+Inv-loop n word starts code jobs now elapsed opens running₀ pending₀ spent₀ k₀ running pending spent k = (k ≤ n) × Tells (sheet-of jobs n) (state-of word) starts code k (Passed running pending spent)
 
 abbrev μ-loop : tie.MeasureT-loop
-μ-loop n word starts code jobs now elapsed opens running₀ held₀ k₀ running held k = n - k
+μ-loop n word starts code jobs now elapsed opens running₀ pending₀ spent₀ k₀ running pending spent k = n - k
 
 now-of-requires : tie.Need-now-of-requires Inv-loop μ-loop
 now-of-requires c κs = search needs
@@ -64,17 +64,29 @@ returns-2 c =
     let a = c .before .before .before .before .before .before .before .before .before .before .args in
     two-run (a .t1) (a .n) (a .word) (a .starts) (a .code) (c .before .before .before .before .before .before .before .loop .k) (search needs) (c .before .before .before .before .before .status-in .result) (c .before .before .before .before .has .result) (c .before .before .before .before .before .status-in .ensures) (c .before .before .before .before .has .ensures) (c .before .before .before .before .before .before .before .loop .running) (c .before .before .before .before .before .before .before .loop .inv .1 .1) (c .if2 .taken)
 
-cast-holds : tie.Need-cast-holds Inv-loop μ-loop
-cast-holds c = search needs
+cast-pends : tie.Need-cast-pends Inv-loop μ-loop
+cast-pends c = search needs
 
-mul-holds : tie.Need-mul-holds Inv-loop μ-loop
-mul-holds c = search needs
+mul-pends : tie.Need-mul-pends Inv-loop μ-loop
+mul-pends c = search needs
 
-array-copy-out-holds : tie.Need-array-copy-out-holds Inv-loop μ-loop
-array-copy-out-holds c = search needs
+array-copy-out-pends : tie.Need-array-copy-out-pends Inv-loop μ-loop
+array-copy-out-pends c = search needs
 
-holds-requires : tie.Need-holds-requires Inv-loop μ-loop
-holds-requires c κs = search needs
+pends-requires : tie.Need-pends-requires Inv-loop μ-loop
+pends-requires c κs = search needs
+
+cast-spends : tie.Need-cast-spends Inv-loop μ-loop
+cast-spends c = search needs
+
+mul-spends : tie.Need-mul-spends Inv-loop μ-loop
+mul-spends c = search needs
+
+array-copy-out-spends : tie.Need-array-copy-out-spends Inv-loop μ-loop
+array-copy-out-spends c = search needs
+
+spends-requires : tie.Need-spends-requires Inv-loop μ-loop
+spends-requires c κs = search needs
 
 add-k : tie.Need-add-k Inv-loop μ-loop
 add-k c = search needs
@@ -84,10 +96,15 @@ loop-less c = search needs
 
 loop-again : tie.Need-loop-again Inv-loop μ-loop
 loop-again c =
-    let a = c .before .before .before .before .before .before .before .before .before .before .before .before .args in (
+    let a = c .before .before .before .before .before .before .before .before .before .before .before .before .before .before .args in
+    let l = c .before .before .before .before .before .before .before .before .before .before .before .loop in
+    let st = c .before .before .before .before .before .before .before .before .before .status-in in
+    let m = c .before .before .before .before .before .before .before .before .has in
+    let n = c .before .before .before .before .before .before .before .before .before .before .before .before .before .now-of .ensures .0 in
+    let e = c .before .before .before .before .before .before .before .before .before .before .before .before .elapsed-of .ensures .0 in (
       search needs,
-      pass-more (a .t1) (a .n) (a .word) (a .starts) (a .code) (c .before .before .before .before .before .before .before .before .before .loop .k) (search needs) (c .before .before .before .before .before .before .before .status-in .result) (c .before .before .before .before .before .before .has .result) (c .before .before .before .before .before .before .before .status-in .ensures) (c .before .before .before .before .before .before .has .ensures) (c .before .before .before .before .before .before .before .before .before .loop .running) (c .before .before .before .before .before .before .before .before .before .loop .held) (c .holds .result)
-          (rw (c .before .before .before .before .before .before .before .before .before .before .before .now-of .ensures .0, c .before .before .before .before .before .before .before .before .before .before .elapsed-of .ensures .0) at (told-yes (c .before .before .before .before .job-fits .ensures) (not-false _ (c .before .before .before .if1 .left)))) (c .before .before .if2 .left) (rw (c .before .before .before .before .before .before .before .before .before .before .before .now-of .ensures .0, c .before .before .before .before .before .before .before .before .before .before .elapsed-of .ensures .0) at (c .holds .ensures)) (c .before .before .before .before .before .before .before .before .before .loop .inv .1),
+      pass-more (a .t1) (a .n) (a .word) (a .starts) (a .code) (l .k) (search needs) (st .result) (m .result) (st .ensures) (m .ensures) (l .running) (l .pending) (l .spent) (c .before .before .pends .result) (c .spends .result)
+          (rw (n, e) at (told-yes (c .before .before .before .before .before .before .job-fits .ensures) (not-false _ (c .before .before .before .before .before .if1 .left)))) (c .before .before .before .before .if2 .left) (rw n at (c .before .before .pends .ensures)) (rw e at (c .spends .ensures)) (l .inv .1),
     )
 
 returns-3 : tie.Need-returns-3 Inv-loop μ-loop
@@ -115,10 +132,14 @@ pass-spec =
     job-fits-requires
     returns
     returns-2
-    cast-holds
-    mul-holds
-    array-copy-out-holds
-    holds-requires
+    cast-pends
+    mul-pends
+    array-copy-out-pends
+    pends-requires
+    cast-spends
+    mul-spends
+    array-copy-out-spends
+    spends-requires
     add-k
     loop-less
     loop-again
