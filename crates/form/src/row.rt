@@ -86,17 +86,18 @@ fn pass(jobs: [[u16; 4]; 8], n: u8, word: u32, starts: u8, code: u8) -> Seen
     let mut spent = false;
     let mut k: u8 = 0;
     while k < n {
+        let job = jobs[k as usize];
         let s = status_in(word, k + 1);
         let marked = has(starts, k + 1);
-        if !job_fits(jobs[k as usize], s, marked, now, elapsed, opens) {
+        if !job_fits(job, s, marked, now, elapsed, opens) {
             return Seen::Refused;
         }
         if running & (s == 2) {
             return Seen::Refused;
         }
         running = running | (s == 2);
-        pending = pending | pends(jobs[k as usize], s, now);
-        spent = spent | spends(jobs[k as usize], s, elapsed);
+        pending = pending | pends(job, s, now);
+        spent = spent | spends(job, s, elapsed);
         k += 1;
     }
     Seen::Passed(running, pending, spent)

@@ -29,6 +29,15 @@ elapsed-of-requires c κs = search needs
 loop-holds : tie.Need-loop-holds Inv-loop μ-loop
 loop-holds c = let a = c .before .before .args in (search needs, pass-none (sheet-of (a .t1) (a .n)) (state-of (a .word)) (a .starts) (a .code))
 
+cast-job : tie.Need-cast-job Inv-loop μ-loop
+cast-job c = search needs
+
+mul-job : tie.Need-mul-job Inv-loop μ-loop
+mul-job c = search needs
+
+array-copy-out-job : tie.Need-array-copy-out-job Inv-loop μ-loop
+array-copy-out-job c = search needs
+
 add-status-in : tie.Need-add-status-in Inv-loop μ-loop
 add-status-in c = search needs
 
@@ -41,49 +50,28 @@ add-has c = search needs
 has-requires : tie.Need-has-requires Inv-loop μ-loop
 has-requires c κs = search needs
 
-cast-job-fits : tie.Need-cast-job-fits Inv-loop μ-loop
-cast-job-fits c = search needs
-
-mul-job-fits : tie.Need-mul-job-fits Inv-loop μ-loop
-mul-job-fits c = search needs
-
-array-copy-out-job-fits : tie.Need-array-copy-out-job-fits Inv-loop μ-loop
-array-copy-out-job-fits c = search needs
-
 job-fits-requires : tie.Need-job-fits-requires Inv-loop μ-loop
-job-fits-requires c κs = (rw (c .before .before .status-in .ensures) (digits-lt 8 _ _), search needs)
+job-fits-requires c κs = (rw (c .before .status-in .ensures) (digits-lt 8 _ _), search needs)
 
 returns : tie.Need-returns Inv-loop μ-loop
 returns c =
     let a = c .before .before .before .before .before .before .before .before .before .args in
-    not-fit (a .t1) (a .n) (a .word) (a .starts) (a .code) (c .before .before .before .before .before .before .loop .k) (search needs) (c .before .before .before .before .status-in .result) (c .before .before .before .has .result) (c .before .before .before .before .status-in .ensures) (c .before .before .before .has .ensures)
+    let l = c .before .before .before .before .before .before .loop in
+    let st = c .before .before .before .status-in in
+    let m = c .before .before .has in
+    not-fit (a .t1) (a .n) (a .word) (a .starts) (a .code) (l .k) (search needs) (st .result) (m .result) (st .ensures) (m .ensures)
     (rw (c .before .before .before .before .before .before .before .before .now-of .ensures .0, c .before .before .before .before .before .before .before .elapsed-of .ensures .0) at (told-no (c .before .job-fits .ensures) (not-true _ (c .if1 .taken))))
 
 returns-2 : tie.Need-returns-2 Inv-loop μ-loop
 returns-2 c =
     let a = c .before .before .before .before .before .before .before .before .before .before .args in
-    two-run (a .t1) (a .n) (a .word) (a .starts) (a .code) (c .before .before .before .before .before .before .before .loop .k) (search needs) (c .before .before .before .before .before .status-in .result) (c .before .before .before .before .has .result) (c .before .before .before .before .before .status-in .ensures) (c .before .before .before .before .has .ensures) (c .before .before .before .before .before .before .before .loop .running) (c .before .before .before .before .before .before .before .loop .inv .1 .1) (c .if2 .taken)
-
-cast-pends : tie.Need-cast-pends Inv-loop μ-loop
-cast-pends c = search needs
-
-mul-pends : tie.Need-mul-pends Inv-loop μ-loop
-mul-pends c = search needs
-
-array-copy-out-pends : tie.Need-array-copy-out-pends Inv-loop μ-loop
-array-copy-out-pends c = search needs
+    let l = c .before .before .before .before .before .before .before .loop in
+    let st = c .before .before .before .before .status-in in
+    let m = c .before .before .before .has in
+    two-run (a .t1) (a .n) (a .word) (a .starts) (a .code) (l .k) (search needs) (st .result) (m .result) (st .ensures) (m .ensures) (l .running) (l .inv .1 .1) (c .if2 .taken)
 
 pends-requires : tie.Need-pends-requires Inv-loop μ-loop
 pends-requires c κs = search needs
-
-cast-spends : tie.Need-cast-spends Inv-loop μ-loop
-cast-spends c = search needs
-
-mul-spends : tie.Need-mul-spends Inv-loop μ-loop
-mul-spends c = search needs
-
-array-copy-out-spends : tie.Need-array-copy-out-spends Inv-loop μ-loop
-array-copy-out-spends c = search needs
 
 spends-requires : tie.Need-spends-requires Inv-loop μ-loop
 spends-requires c κs = search needs
@@ -96,15 +84,15 @@ loop-less c = search needs
 
 loop-again : tie.Need-loop-again Inv-loop μ-loop
 loop-again c =
-    let a = c .before .before .before .before .before .before .before .before .before .before .before .before .before .before .args in
-    let l = c .before .before .before .before .before .before .before .before .before .before .before .loop in
-    let st = c .before .before .before .before .before .before .before .before .before .status-in in
-    let m = c .before .before .before .before .before .before .before .before .has in
-    let n = c .before .before .before .before .before .before .before .before .before .before .before .before .before .now-of .ensures .0 in
-    let e = c .before .before .before .before .before .before .before .before .before .before .before .before .elapsed-of .ensures .0 in (
+    let a = c .before .before .before .before .before .before .before .before .before .before .before .before .args in
+    let l = c .before .before .before .before .before .before .before .before .before .loop in
+    let st = c .before .before .before .before .before .before .status-in in
+    let m = c .before .before .before .before .before .has in
+    let n = c .before .before .before .before .before .before .before .before .before .before .before .now-of .ensures .0 in
+    let e = c .before .before .before .before .before .before .before .before .before .before .elapsed-of .ensures .0 in (
       search needs,
-      pass-more (a .t1) (a .n) (a .word) (a .starts) (a .code) (l .k) (search needs) (st .result) (m .result) (st .ensures) (m .ensures) (l .running) (l .pending) (l .spent) (c .before .before .pends .result) (c .spends .result)
-          (rw (n, e) at (told-yes (c .before .before .before .before .before .before .job-fits .ensures) (not-false _ (c .before .before .before .before .before .if1 .left)))) (c .before .before .before .before .if2 .left) (rw n at (c .before .before .pends .ensures)) (rw e at (c .spends .ensures)) (l .inv .1),
+      pass-more (a .t1) (a .n) (a .word) (a .starts) (a .code) (l .k) (search needs) (st .result) (m .result) (st .ensures) (m .ensures) (l .running) (l .pending) (l .spent) (c .before .pends .result) (c .spends .result)
+          (rw (n, e) at (told-yes (c .before .before .before .before .job-fits .ensures) (not-false _ (c .before .before .before .if1 .left)))) (c .before .before .if2 .left) (rw n at (c .before .pends .ensures)) (rw e at (c .spends .ensures)) (l .inv .1),
     )
 
 returns-3 : tie.Need-returns-3 Inv-loop μ-loop
@@ -122,23 +110,17 @@ pass-spec =
     now-of-requires
     elapsed-of-requires
     loop-holds
+    cast-job
+    mul-job
+    array-copy-out-job
     add-status-in
     status-in-requires
     add-has
     has-requires
-    cast-job-fits
-    mul-job-fits
-    array-copy-out-job-fits
     job-fits-requires
     returns
     returns-2
-    cast-pends
-    mul-pends
-    array-copy-out-pends
     pends-requires
-    cast-spends
-    mul-spends
-    array-copy-out-spends
     spends-requires
     add-k
     loop-less
