@@ -2,12 +2,15 @@
 -- a tick in any order. Where the tick is possible no arrival is pending, and only there safety asks for a start. Assumes nothing.
 use Prim.Native.Nat.{ℕ, _≤_}
 use native.Mathlib.Omega.{arith}
-use mathlib.Core.Path.{_≡_}
+use mathlib.Core.Path.{_≡_, refl}
 use mathlib.Core.Logic.{_≢_, _⊎_, inl, inr, _↔_}
+use mathlib.Core.List.{[], _∷_}
 use Rattle.plant.specs.Plant.{Plant, Event, tick, arrival, start, ending, Live, at-start, after, Leads, Safe}
+use Rattle.plant.specs.Reflect.{is-not}
 use Rattle.plant.specs.Lists.{Number, at-most}
 use Rattle.plant.specs.SafeLaws.{safe-leads, safe-not-late, leads-weakly, largest}
-use Rattle.sheet.specs.Model.{Sheet, Names, Good, State, status, initial, Possible, next, Late, plant}
+use Rattle.sheet.specs.Model.{Job, Sheet, Names, Good, State, status, initial, Possible, next, Late, plant}
+use Rattle.sheet.specs.ModelTests.{is-busy, is-possible}
 use Rattle.sheet.specs.Obeys.{tests}
 use Rattle.sheet.specs.Demand3.{lives}
 
@@ -20,6 +23,19 @@ Possible-in-any-order σ q (ending i) = Possible σ q (ending i)
 
 abbrev pub any-order : Sheet → Plant
 any-order σ = record { State = State; initial = initial; Possible = Possible-in-any-order σ; next = next σ; Late = Late σ }
+
+-- The two differ: of two jobs that come at tick 0 the first to arrive may start at once in any order, but not with arrivals first
+abbrev twice : Sheet
+twice = let j : Job = record { arrives = 0; fewest = 1; most = 1; due = 2 } in j ∷ j ∷ []
+
+abbrev one-in : State
+one-in = next twice initial (arrival 1)
+
+pub at-once : Possible-in-any-order twice one-in (start 1)
+at-once = (omega arith, refl, λ j h z. is-not (is-busy twice one-in) .holds tt (j, h, z))
+
+pub not-at-once : ¬ (Possible twice one-in (start 1))
+not-at-once p = is-possible twice one-in (start 1) .passes p
 
 module _ (σ : Sheet) where
   -- what is possible with arrivals first is possible in any order
