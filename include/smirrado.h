@@ -179,7 +179,8 @@ struct smirrado_leeway_reply smirrado_leeway(const uint8_t *file, size_t bytes, 
  *          7   the file is of bad form; detail is its lowest bad block
  *          9   the byte is of no kind, or its job is not one of the file's
  *          8   the desk's state is no row of the file; a status above 3 is in no row
- *          10  the event is not possible in this state: an arrival at another tick, an ending before the fewest ticks, ..
+ *          10  the event is not possible in this state: an arrival at another tick, an ending before the fewest ticks, a
+ *              start before an arrival of the same tick has been told, ..
  *          11  the start or the tick is possible, but the row does not allow it. Arrivals and endings are never stopped.
  *
  * Leaves   the desk, on 0, in the state after the event; on a refusal as it stood. It must be writable all the same.

@@ -78,7 +78,7 @@ const WORDS: [Written; 45] = [
     ("done long past its due tick", 12, 3, &[3, 3, 2], 0, NONE, true),
 ];
 
-const MARKS: [Written; 52] = [
+const MARKS: [Written; 55] = [
     ("no start, open", 3, 0, &[1, 1, 0], 0, OPEN, true),
     ("start of 1, open", 3, 0, &[1, 1, 0], 1, OPEN, true),
     ("start of 2, open", 3, 0, &[1, 1, 0], 2, OPEN, true),
@@ -97,7 +97,10 @@ const MARKS: [Written; 52] = [
     ("start of job 8 of 3", 3, 0, &[1, 1, 0], 128, OPEN, false),
     ("every start", 6, 0, &[1, 1, 1], 255, OPEN, false),
     ("held by the start of a job not arrived", 0, 0, &[1, 0, 0], 2, HELD, false),
-    ("start before a pending arrival", 3, 0, &[1, 0, 0], 1, NONE, true),
+    ("start before a pending arrival", 3, 0, &[1, 0, 0], 1, NONE, false),
+    ("starts of two before a pending arrival", 5, 0, &[1, 1, 0], 3, NONE, false),
+    ("start after the last arrival of a tick", 5, 0, &[1, 1, 1], 1, OPEN, true),
+    ("start one tick before an arrival", 4, 0, &[1, 1, 0], 1, OPEN, true),
     ("code 0 where the tick is possible", 0, 0, &[1, 0, 0], 0, NONE, false),
     ("code 0 with a start where the tick is possible", 0, 0, &[1, 0, 0], 1, NONE, false),
     ("code 0 while one runs", 4, 1, &[2, 1, 0], 0, NONE, false),

@@ -38,7 +38,7 @@ fn random_row(sheet: &Sheet, random: &mut Random) -> Option<Row> {
     if !in_order(sheet, &state) {
         return None;
     }
-    let starts = random_starts(&state, random);
+    let starts = random_starts(sheet, &state, random);
     let ticks: Vec<u8> = (0..=2).filter(|&tick| marks_fit(sheet, &state, starts, tick)).collect();
     if ticks.is_empty() {
         return None;
@@ -83,8 +83,8 @@ fn random_status(job: &Job, state: &State, random: &mut Random) -> u8 {
     *random.pick(&allowed)
 }
 
-fn random_starts(state: &State, random: &mut Random) -> u8 {
-    if state.running().is_some() {
+fn random_starts(sheet: &Sheet, state: &State, random: &mut Random) -> u8 {
+    if state.running().is_some() || state.any_pending(sheet) {
         return 0;
     }
     let ready = (1..=8).filter(|&k| state.status(k) == READY);

@@ -158,6 +158,7 @@ fn step_refusals() -> Outcome {
     refused(&file, no_row, 2, (8, 0))?;
     refused(&file, desk(0, 0, 1, 0), 2, (10, 0))?;
     refused(&file, desk(0, 0, 1, 0), 18, (10, 0))?;
+    refused(&file, desk(1, 0, 1, 0), 17, (10, 0))?;
     refused(&file, desk(0, 0, 1, 0), 17, (11, 0))?;
     refused(&file, desk(1, 0, 1, 1), 17, (11, 0))?;
     refused(&file, desk(1, 0, 1, 1), 0, (11, 0))

@@ -18,7 +18,7 @@ use Rattle.state.specs.Clocks.{job-of, sheet-of}
 use Rattle.state.specs.SheetLaws.{job-suc}
 use Rattle.state.specs.Tell.{tell-no, told-yes, told-no}
 use Rattle.form.specs.declared.row.Seen.the-variants.{Passed}
-use Rattle.form.specs.RowTest.{Job-fits, Holds, Jobs-fit, Runs, Tells}
+use Rattle.form.specs.RowTest.{Job-fits, Pends, Spends, Jobs-fit, Runs, Tells}
 use Rattle.form.specs.TestLaws.{is-or}
 
 -- the last of 1 to k + 1, or one before
@@ -36,9 +36,10 @@ is-more {a} {b} {P} k r s = is-map to (λ w. split {P = λ i. P i → ((i : ℕ)
     to (inl w) = (w .0, omega (arith, w .1), w .2)
     to (inr p) = (k + 1, omega arith, p)
 
-pub pass-none : (σ : Sheet) (q : State) (b c : ℕ) → Tells σ q b c 0 (Passed false false)
+pub pass-none : (σ : Sheet) (q : State) (b c : ℕ) → Tells σ q b c 0 (Passed false false false)
 pass-none σ q b c = (
   record { each = λ i h. absurd (omega arith); alone = λ i m h. absurd (omega arith) },
+  tell-no (λ w. omega (arith, w .1)),
   tell-no (λ w. omega (arith, w .1)),
   tell-no (λ w. omega (arith, w .1)),
 )
@@ -80,15 +81,16 @@ module _ (js : List (List ℕ)) (n w b c k : ℕ) (h : k < n) where
         let z : y .0 ≡ k + 1 = g .alone (y .0) (k + 1) (omega arith) (omega arith) (y .2) (sym e ∙ x .1) in
         omega arith
 
-    pub pass-more : (running held still : Bool) → Fits → running && eqb s 2 ≡ false → Is still (Holds own (q .now) (q .elapsed) s)
-        → Tells σ q b c k (Passed running held) → Tells σ q b c (k + 1) (Passed (running || eqb s 2) (held || still))
-    pass-more running held still f t l p = (
+    pub pass-more : (running pending spent comes stops : Bool) → Fits → running && eqb s 2 ≡ false → Is comes (Pends own (q .now) s) → Is stops (Spends own (q .elapsed) s)
+        → Tells σ q b c k (Passed running pending spent) → Tells σ q b c (k + 1) (Passed (running || eqb s 2) (pending || comes) (spent || stops))
+    pass-more running pending spent comes stops f t x y p = (
       record {
         each = split k (p .0 .each) (fits-here f);
         alone = λ i m a d x y. alone i m (decLe i k) (decLe m k) a d x y;
       },
       is-more k (p .1) (rw (← e) (is-eq s 2)),
-      is-more k (p .2) (rw (own-is, ← e) l),
+      is-more k (p .2) (rw (own-is, ← e) x),
+      is-more k (p .3) (rw (own-is, ← e) y),
     )
       where
         other : (i : ℕ) → In k i → status q i ≡ 2 → status q (k + 1) ≡ 2 → ⊥

@@ -3,19 +3,19 @@ use Prim.Native.Nat.{ℕ, _-_, _%_, _^_, _≤_, _<_}
 use native.Mathlib.Omega.{arith}
 use mathlib.Core.Path.{_≡_, sym, subst}
 use mathlib.Core.Logic.{_≢_}
-use mathlib.Core.Bool.{Bool, true, false, _&&_}
+use mathlib.Core.Bool.{Bool, true, false, not, _&&_}
 use mathlib.Core.List.{List}
 use lib.ListN.{length}
 use lib.Dec.{eqb, leb}
-use Rattle.plant.specs.Reflect.{Is, is-map, is-le, is-eq, is-and}
+use Rattle.plant.specs.Reflect.{Is, is-map, is-le, is-eq, is-and, is-not, is-dec, stable}
 use Rattle.sheet.specs.Model.{Sheet, State, Finished}
 use Rattle.sheet.specs.Form.{state-of, Good-entry}
 use Rattle.state.specs.Clocks.{sheet-of}
 use Rattle.state.specs.SheetLaws.{length-sheet}
 use Rattle.state.specs.Tell.{tell-no, told-yes, told-no}
 use Rattle.form.specs.declared.row.Seen.the-variants.{Refused, Passed}
-use Rattle.form.specs.RowTest.{Tells, Ends, Code-fits}
-use Rattle.form.specs.RowRight.{ends-right, done-is, is-done, done-good, good-done, fit-right, rest-right, idle-right, row-is}
+use Rattle.form.specs.RowTest.{Tells, Runs, Ends, Marks-fit}
+use Rattle.form.specs.RowRight.{ends-right, done-is, is-done, done-good, good-done, fit-right, rest-right, row-is}
 
 module _ (js : List (List ℕ)) (n w b c : ℕ) (l : length js ≡ 8) (few : n ≤ 8) where
   abbrev σ : Sheet
@@ -52,19 +52,18 @@ module _ (js : List (List ℕ)) (n w b c : ℕ) (l : length js ≡ 8) (few : n �
       pub jobs-bad : Tells σ q b c n Refused → Is false Good
       jobs-bad f = tell-no (λ g. f (rw count at (fit-right σ w b c small unfinished g)))
 
-      module _ (running held : Bool) (told : Tells σ q b c n (Passed running held)) where
-        all : Tells σ q b c (length σ) (Passed running held)
-        all = subst (λ (m : ℕ). Tells σ q b c m (Passed running held)) (sym count) told
+      module _ (running pending spent : Bool) (told : Tells σ q b c n (Passed running pending spent)) where
+        all : Tells σ q b c (length σ) (Passed running pending spent)
+        all = subst (λ (m : ℕ). Tells σ q b c m (Passed running pending spent)) (sym count) told
 
-        pub start-bad : running ≡ true → b ≢ 0 → Is false Good
-        start-bad r z = tell-no (λ g. z (idle-right σ w b c small unfinished g (told-yes (all .1) r)))
+        -- none runs and elapsed is not 0
+        is-stray : Is (not running && not (eqb (q .elapsed) 0)) (¬ (Runs q (length σ)) × (q .elapsed ≢ 0))
+        is-stray = is-and (is-not (all .1)) (is-not (is-eq (q .elapsed) 0))
 
-        pub rest-bad : running ≡ false → q .elapsed ≢ 0 → Is false Good
-        rest-bad r z = tell-no (λ g. z (rest-right σ w b c small unfinished g (told-no (all .1) r)))
+        pub rest-bad : not running && not (eqb (q .elapsed) 0) ≡ true → Is false Good
+        rest-bad z = let x = told-yes is-stray z in tell-no (λ g. x .1 (rest-right σ w b c small unfinished g (x .0)))
 
-        module _ (fits : w < 2 ^ 32) (byte : b < 256) (r : Bool) (code : Is r (Code-fits (held ≡ true) b c)) where
-          pub runs-row : running ≡ true → b ≡ 0 → Is r Good
-          runs-row x z = row-is σ w b c small unfinished fits byte ends (all .0) (all .1) (λ f. absurd (f (told-yes (all .1) x))) (λ _. z) (all .2) code
-
-          pub idle-row : running ≡ false → q .elapsed ≡ 0 → Is r Good
-          idle-row x z = row-is σ w b c small unfinished fits byte ends (all .0) (all .1) (λ _. z) (λ f. absurd (told-no (all .1) x f)) (all .2) code
+        pub rest-row : not running && not (eqb (q .elapsed) 0) ≡ false → w < 2 ^ 32 → b < 256 → (r : Bool) → Is r (Marks-fit (running ≡ true) (pending ≡ true) (spent ≡ true) b c) → Is r Good
+        rest-row z fits byte r marks =
+            row-is σ w b c small unfinished fits byte ends (all .0) (λ f. stable (is-dec (is-eq (q .elapsed) 0)) (λ x. told-no is-stray z (f, x)))
+            (all .1) (all .2) (all .3) marks

@@ -19,7 +19,8 @@ use Rattle.sheet.specs.Form.{digits, state-of, Timely, Under-way, Finished-stat
 use Rattle.sheet.specs.Table.{Entry}
 use Rattle.state.specs.Tell.{told-yes}
 use Rattle.look.specs.LateLaws.{is-due, due-late}
-use Rattle.form.specs.RowTest.{Jobs-fit, Runs, Held, Ends, Code-fits}
+use Rattle.form.specs.RowTest.{Jobs-fit, Runs, One-pends, One-spends, Ends, Marks-fit}
+use Rattle.form.specs.TestLaws.{is-or}
 use Rattle.form.specs.DigitLaws.{threes, of-threes}
 
 module _ (σ : Sheet) (w b c : ℕ) (few : length σ ≤ 8) where
@@ -48,7 +49,7 @@ module _ (σ : Sheet) (w b c : ℕ) (few : length σ ≤ 8) where
       (λ j h. let d : suc j - 1 ≡ j = omega arith in rw d at (e .statuses (suc j) (omega arith)))
 
   open-done : Finished σ q → Possible σ q tick
-  open-done f = ((λ i h z. absurd (omega (arith, f i h))), (λ i h z. absurd (omega (arith, f i h))))
+  open-done f = ((λ i w. omega (arith, f i (w .0), w .1)), (λ i h z. absurd (omega (arith, f i h))))
 
   no-late-done : Finished σ q → ¬ (Late σ (next σ q tick))
   no-late-done f x =
@@ -92,11 +93,19 @@ module _ (σ : Sheet) (w b c : ℕ) (few : length σ ≤ 8) where
 
   -- a state under way --------------------------------------------------------------------------------------------------
 
-  goes : ¬ (Held σ q (length σ)) → Possible σ q tick
-  goes n = ((λ i h z a. n (i, h, inl (z, a))), (λ i h z a. n (i, h, inr (z, a))))
+  -- an arrival is pending or a job has run for its most ticks: the tick is not possible
+  abbrev Held : Type 0
+  Held = One-pends σ q (length σ) ⊎ One-spends σ q (length σ)
 
-  stops : Held σ q (length σ) → ¬ (Possible σ q tick)
-  stops x p = ⊎-elim (λ y. p .0 (x .0) (x .1) (y .0) (y .1)) (λ y. p .1 (x .0) (x .1) (y .0) (y .1)) (x .2)
+  goes : ¬ Held → Possible σ q tick
+  goes n = ((λ i w. n (inl (i, w .0, (w .1, w .2)))), (λ i h z a. n (inr (i, h, (z, a)))))
+
+  stops : Held → ¬ (Possible σ q tick)
+  stops (inl x) p = p .0 (x .0) (x .1, x .2 .0, x .2 .1)
+  stops (inr x) p = p .1 (x .0) (x .1) (x .2 .0) (x .2 .1)
+
+  abbrev Marks : Type 0
+  Marks = Marks-fit (Runs q (length σ)) (One-pends σ q (length σ)) (One-spends σ q (length σ)) b c
 
   module _ (nf : ¬ (Finished σ q)) where
     under : Good-entry σ row → Under-way σ q
@@ -131,30 +140,33 @@ module _ (σ : Sheet) (w b c : ℕ) (few : length σ ≤ 8) where
     pub rest-right : Good-entry σ row → ¬ (Runs q (length σ)) → q .elapsed ≡ 0
     rest-right g n = under g .rests (λ i h e. n (i, h, e))
 
-    pub idle-right : Good-entry σ row → Runs q (length σ) → b ≡ 0
-    idle-right g r = go (ℕ-discrete b 0)
+    idle-right : Good-entry σ row → Runs q (length σ) ⊎ One-pends σ q (length σ) → b ≡ 0
+    idle-right g h = go (ℕ-discrete b 0)
       where
+        not-now : {i : ℕ} → Possible σ q (start i) → Runs q (length σ) ⊎ One-pends σ q (length σ) → ⊥
+        not-now p (inl r) = p .2 (r .0) (r .1) (r .2)
+        not-now p (inr x) = p .3 (x .0) (x .1, x .2 .0, x .2 .1)
+
         go : Dec (b ≡ 0) → b ≡ 0
         go (yes e) = e
-        go (no n) = let x = byte-some b (g .fits .1) n in absurd (g .marks .ready (x .0) (x .1) (x .2) .2 (r .0) (r .1) (r .2))
+        go (no n) = let x = byte-some b (g .fits .1) n in absurd (not-now (g .marks .ready (x .0) (x .1) (x .2)) h)
 
-    pub code-right : Good-entry σ row → Code-fits (Held σ q (length σ)) b c
-    code-right g = record { none = λ h. g .marks .some (stops h); some = λ n. two (λ z. g .marks .none z (goes n)) (ℕ-discrete c 2) }
+    marks-right : Good-entry σ row → Marks
+    marks-right g = record { idle = idle-right g; none = λ h. g .marks .some (stops h); some = λ n. two (λ z. g .marks .none z (goes n)) (ℕ-discrete c 2) }
       where
         two : c ≢ 0 → Dec (c ≡ 2) → (c ≡ 1) ⊎ ((c ≡ 2) × (1 ≤ b))
         two z (yes e) = inr (e, g .marks .held e)
         two z (no n) = inl (omega (arith, g .marks .known))
 
-    pub good-right : w < 2 ^ 32 → b < 256 → Ends (length σ) q b → Jobs-fit σ q b c (length σ) → Dec (Runs q (length σ)) → (¬ (Runs q (length σ)) → q .elapsed ≡ 0) → (Runs q (length σ) → b ≡ 0)
-        → Dec (Held σ q (length σ)) → Code-fits (Held σ q (length σ)) b c → Good-entry σ row
-    good-right small byte e f dr rest idle dh code = record {
+    good-right : w < 2 ^ 32 → b < 256 → Ends (length σ) q b → Jobs-fit σ q b c (length σ) → (¬ (Runs q (length σ)) → q .elapsed ≡ 0) → Dec Held → Marks → Good-entry σ row
+    good-right small byte e f rest dh marks = record {
       fits = (small, byte);
       order = record {
         past = e .statuses;
         state = inr (record { not-done = nf; one-runs = f .alone; rests = λ n. rest (λ r. n (r .0) (r .1) (r .2)); timely = timely; in-time = λ x. late (x .0) (x .1 .names) (x .1 .arrived) (x .1 .unfinished) (x .1 .past) });
       };
       marks = record {
-        ready = λ i h s. ready i h s dr;
+        ready = ready;
         none = λ z. none z dh;
         some = λ n. some n dh;
         known = known dh;
@@ -169,37 +181,44 @@ module _ (σ : Sheet) (w b c : ℕ) (few : length σ ≤ 8) where
         late : (i : ℕ) → Names σ i → 1 ≤ status q i → status q i ≤ 2 → job σ i .arrives + job σ i .due < q .now → ⊥
         late i h a o p = omega (arith, f .each i h .in-time a o)
 
-        ready : (i : ℕ) → In 8 i → Has b i → Dec (Runs q (length σ)) → Possible σ q (start i)
-        ready i h s (yes r) = absurd (omega (arith, zero-div (2 ^ (i - 1)), rw (idle r) at s))
-        ready i h s (no n) = here (decLe i (length σ))
+        ready : (i : ℕ) → In 8 i → Has b i → Possible σ q (start i)
+        ready i h s = here (decLe i (length σ))
           where
+            free : ¬ (Runs q (length σ) ⊎ One-pends σ q (length σ))
+            free r = omega (arith, zero-div (2 ^ (i - 1)), rw (marks .idle r) at s)
+
             here : Dec (i ≤ length σ) → Possible σ q (start i)
-            here (yes l) = ((h .0, l), f .each i (h .0, l) .ready s, λ j k r. n (j, k, r))
+            here (yes l) = ((h .0, l), f .each i (h .0, l) .ready s, (λ j k r. free (inl (j, k, r))), λ j x. free (inr (j, x .0, (x .1, x .2))))
             here (no l) = absurd (e .bits i h (omega arith) s)
 
-        none : c ≡ 0 → Dec (Held σ q (length σ)) → ¬ (Possible σ q tick)
+        none : c ≡ 0 → Dec Held → ¬ (Possible σ q tick)
         none z (yes h) = stops h
-        none z (no n) = absurd (⊎-elim (λ x. omega arith) (λ x. omega (arith, x .0)) (code .some n))
+        none z (no n) = absurd (⊎-elim (λ x. omega arith) (λ x. omega (arith, x .0)) (marks .some n))
 
-        some : ¬ (Possible σ q tick) → Dec (Held σ q (length σ)) → c ≡ 0
-        some n (yes h) = code .none h
+        some : ¬ (Possible σ q tick) → Dec Held → c ≡ 0
+        some n (yes h) = marks .none h
         some n (no m) = absurd (n (goes m))
 
-        known : Dec (Held σ q (length σ)) → c ≤ 2
-        known (yes h) = omega (arith, code .none h)
-        known (no n) = ⊎-elim (λ x. omega arith) (λ x. omega (arith, x .0)) (code .some n)
+        known : Dec Held → c ≤ 2
+        known (yes h) = omega (arith, marks .none h)
+        known (no n) = ⊎-elim (λ x. omega arith) (λ x. omega (arith, x .0)) (marks .some n)
 
-        held : c ≡ 2 → Dec (Held σ q (length σ)) → 1 ≤ b
-        held z (yes h) = absurd (omega (arith, code .none h))
-        held z (no n) = ⊎-elim (λ x. absurd (omega arith)) (λ x. x .1) (code .some n)
+        held : c ≡ 2 → Dec Held → 1 ≤ b
+        held z (yes h) = absurd (omega (arith, marks .none h))
+        held z (no n) = ⊎-elim (λ x. absurd (omega arith)) (λ x. x .1) (marks .some n)
 
     -- the answer of the last test is the answer
-    pub row-is : {running held r : Bool} → w < 2 ^ 32 → b < 256 → Ends (length σ) q b → Jobs-fit σ q b c (length σ) → Is running (Runs q (length σ)) → (¬ (Runs q (length σ)) → q .elapsed ≡ 0) → (Runs q (length σ) → b ≡ 0)
-        → Is held (Held σ q (length σ)) → Is r (Code-fits (held ≡ true) b c) → Is r (Good-entry σ row)
-    row-is {running} {held} {r} small byte e f ir rest idle ih ic = is-map (λ x. good-right small byte e f (is-dec ir) rest idle (is-dec ih) (up x)) (λ g. down (code-right g)) ic
+    pub row-is : {running pending spent r : Bool} → w < 2 ^ 32 → b < 256 → Ends (length σ) q b → Jobs-fit σ q b c (length σ) → (¬ (Runs q (length σ)) → q .elapsed ≡ 0)
+        → Is running (Runs q (length σ)) → Is pending (One-pends σ q (length σ)) → Is spent (One-spends σ q (length σ))
+        → Is r (Marks-fit (running ≡ true) (pending ≡ true) (spent ≡ true) b c) → Is r (Good-entry σ row)
+    row-is {running} {pending} {spent} {r} small byte e f rest ir ip is im = is-map (λ m. good-right small byte e f rest (is-dec (is-or ip is)) (up m)) (λ g. down (marks-right g)) im
       where
-        up : Code-fits (held ≡ true) b c → Code-fits (Held σ q (length σ)) b c
-        up x = record { none = λ y. x .none (is-true ih y); some = λ n. x .some (λ d. n (told-yes ih d)) }
+        either : {A B C D : Type 0} → (A → C) → (B → D) → A ⊎ B → C ⊎ D
+        either g h (inl a) = inl (g a)
+        either g h (inr b) = inr (h b)
 
-        down : Code-fits (Held σ q (length σ)) b c → Code-fits (held ≡ true) b c
-        down x = record { none = λ d. x .none (told-yes ih d); some = λ n. x .some (λ y. n (is-true ih y)) }
+        up : Marks-fit (running ≡ true) (pending ≡ true) (spent ≡ true) b c → Marks
+        up m = record { idle = λ y. m .idle (either (is-true ir) (is-true ip) y); none = λ y. m .none (either (is-true ip) (is-true is) y); some = λ n. m .some (λ d. n (either (told-yes ip) (told-yes is) d)) }
+
+        down : Marks → Marks-fit (running ≡ true) (pending ≡ true) (spent ≡ true) b c
+        down m = record { idle = λ d. m .idle (either (told-yes ir) (told-yes ip) d); none = λ d. m .none (either (told-yes ip) (told-yes is) d); some = λ n. m .some (λ y. n (either (is-true ip) (is-true is) y)) }

@@ -20,33 +20,43 @@ pub record Job-fits (j : Job) (now elapsed s : ℕ) (marked opens : Type 0) : Ty
   -- "starts only of ready jobs"
   pub ready : marked → s ≡ 1
 
--- the job keeps the tick from being possible: "no arrival is pending and no running job has elapsed = W"
-abbrev pub Holds : Job → (now elapsed s : ℕ) → Type 0
-Holds j now elapsed s = ((s ≡ 0) × (now ≡ j .arrives)) ⊎ ((s ≡ 2) × (elapsed ≡ j .most))
+-- its arrival is pending
+abbrev pub Pends : Job → (now s : ℕ) → Type 0
+Pends j now s = (s ≡ 0) × (now ≡ j .arrives)
+
+-- it has run for its most ticks
+abbrev pub Spends : Job → (elapsed s : ℕ) → Type 0
+Spends j elapsed s = (s ≡ 2) × (elapsed ≡ j .most)
 
 -- jobs 1 to k fit, and at most one of them runs
 pub record Jobs-fit (σ : Sheet) (q : State) (starts code k : ℕ) : Type 0 where
   pub each : (i : ℕ) → In k i → Job-fits (job σ i) (q .now) (q .elapsed) (status q i) (Has starts i) (code ≡ 1)
   pub alone : (i m : ℕ) → In k i → In k m → status q i ≡ 2 → status q m ≡ 2 → i ≡ m
 
--- one of jobs 1 to k runs; one of them keeps the tick from being possible
+-- of jobs 1 to k: one runs; the arrival of one is pending; one has run for its most ticks
 abbrev pub Runs : State → ℕ → Type 0
 Runs q k = (i : ℕ) × In k i × (status q i ≡ 2)
 
-abbrev pub Held : Sheet → State → ℕ → Type 0
-Held σ q k = (i : ℕ) × In k i × Holds (job σ i) (q .now) (q .elapsed) (status q i)
+abbrev pub One-pends : Sheet → State → ℕ → Type 0
+One-pends σ q k = (i : ℕ) × In k i × Pends (job σ i) (q .now) (status q i)
+
+abbrev pub One-spends : Sheet → State → ℕ → Type 0
+One-spends σ q k = (i : ℕ) × In k i × Spends (job σ i) (q .elapsed) (status q i)
 
 -- what a pass over jobs 1 to k tells
 abbrev pub Tells : Sheet → State → (starts code k : ℕ) → Seen → Type 0
 Tells σ q starts code k Refused = ¬ (Jobs-fit σ q starts code k)
-Tells σ q starts code k (Passed running held) = Jobs-fit σ q starts code k × Is running (Runs q k) × Is held (Held σ q k)
+Tells σ q starts code k (Passed running pending spent) = Jobs-fit σ q starts code k × Is running (Runs q k) × Is pending (One-pends σ q k) × Is spent (One-spends σ q k)
 
 -- nothing past the last job
 pub record Ends (n : ℕ) (q : State) (starts : ℕ) : Type 0 where
   pub statuses : (i : ℕ) → n < i → status q i ≡ 0
   pub bits : (i : ℕ) → In 8 i → n < i → ¬ (Has starts i)
 
--- the tick code, where the tick is not possible and where it is
-pub record Code-fits (held : Type 0) (starts code : ℕ) : Type 0 where
-  pub none : held → code ≡ 0
-  pub some : ¬ held → (code ≡ 1) ⊎ ((code ≡ 2) × (1 ≤ starts))
+-- the marks, where a job runs, where an arrival is pending, where a job has run for its most ticks
+pub record Marks-fit (running pending spent : Type 0) (starts code : ℕ) : Type 0 where
+  -- "only if none runs"; "starts be empty while an arrival is pending" (02, #101)
+  pub idle : running ⊎ pending → starts ≡ 0
+  -- "code 0 exactly if the tick isn't possible, otherwise 1 or 2; 2 only with some start"
+  pub none : pending ⊎ spent → code ≡ 0
+  pub some : ¬ (pending ⊎ spent) → (code ≡ 1) ⊎ ((code ≡ 2) × (1 ≤ starts))

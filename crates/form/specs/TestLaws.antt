@@ -1,4 +1,4 @@
--- The row's tests that need no loop say what they should: one job, the tick code. Assumes nothing.
+-- The row's tests that need no loop say what they should: one job, the marks. Assumes nothing.
 use Prim.Native.Nat.{ℕ, _+_, _≤_}
 use native.Mathlib.Omega.{arith}
 use mathlib.Core.Path.{_≡_, refl, sym, ap, subst}
@@ -7,10 +7,10 @@ use mathlib.Core.Bool.{Bool, true, false, not, _&&_, _||_}
 use lib.Dec.{T, eqb, leb}
 use mir.Val.{boolByte}
 use Rattle.plant.specs.Search.{T-or, or-T}
-use Rattle.plant.specs.Reflect.{Is, is-map, is-le, is-eq, is-and, is-not}
+use Rattle.plant.specs.Reflect.{Is, is-map, is-le, is-eq, is-and, is-not, is-dec, stable}
 use Rattle.sheet.specs.Model.{Job}
-use Rattle.state.specs.Tell.{told-no}
-use Rattle.form.specs.RowTest.{Job-fits, Holds, Code-fits}
+use Rattle.state.specs.Tell.{tell-no, told-yes, told-no}
+use Rattle.form.specs.RowTest.{Job-fits, Marks-fit}
 
 pub is-or : {a b : Bool} {P Q : Type 0} → Is a P → Is b Q → Is (a || b) (P ⊎ Q)
 is-or {a} {b} {P} {Q} r s = record { holds = λ t. to (T-or a b t); passes = λ w. or-T a b (from w) }
@@ -26,9 +26,6 @@ is-or {a} {b} {P} {Q} r s = record { holds = λ t. to (T-or a b t); passes = λ 
 is-self : (b : Bool) → Is b (b ≡ true)
 is-self true = record { holds = λ _. refl; passes = λ _. tt }
 is-self false = record { holds = λ t. absurd t; passes = λ e. subst T (sym e) tt }
-
-pub holds-is : (j : Job) (now elapsed s : ℕ) → Is ((eqb s 0 && eqb now (j .arrives)) || (eqb s 2 && eqb elapsed (j .most))) (Holds j now elapsed s)
-holds-is j now elapsed s = is-or (is-and (is-eq s 0) (is-eq now (j .arrives))) (is-and (is-eq s 2) (is-eq elapsed (j .most)))
 
 -- the rule that each status asks of a job
 module _ (j : Job) (now elapsed s : ℕ) (marked opens : Bool) where
@@ -101,15 +98,32 @@ module _ (j : Job) (now elapsed s : ℕ) (marked opens : Bool) where
         (λ f. (in-time f (omega arith) (omega arith), f .timely .runs e))
         (is-and (is-le (now + boolByte opens) (j .arrives + j .due)) (is-and (is-le elapsed (j .most)) (is-le (j .arrives + elapsed) now)))
 
--- the tick code where the tick is not possible, and where it is
-module _ (held : Bool) (b c : ℕ) where
-  pub code-none : held ≡ true → Is (eqb c 0) (Code-fits (held ≡ true) b c)
-  code-none e = is-map (λ z. record { none = λ _. z; some = λ n. absurd (n e) }) (λ x. x .none e) (is-eq c 0)
+-- the marks where a start is marked that may not be, where the tick is not possible, and where it is
+module _ (running pending spent : Bool) (b c : ℕ) where
+  abbrev Marks : Type 0
+  Marks = Marks-fit (running ≡ true) (pending ≡ true) (spent ≡ true) b c
 
-  pub code-some : held ≡ false → Is (eqb c 1 || (eqb c 2 && not (eqb b 0))) (Code-fits (held ≡ true) b c)
-  code-some e =
-      is-map (λ x. record { none = λ d. absurd (told-no (is-self held) e d); some = λ _. x }) (λ x. x .some (told-no (is-self held) e))
-      (is-or (is-eq c 1) (is-and (is-eq c 2) (is-map (λ n. omega arith) (λ l e. omega arith) (is-not (is-eq b 0)))))
+  is-marked : Is ((running || pending) && not (eqb b 0)) (((running ≡ true) ⊎ (pending ≡ true)) × (b ≢ 0))
+  is-marked = is-and (is-or (is-self running) (is-self pending)) (is-not (is-eq b 0))
+
+  is-held : Is (pending || spent) ((pending ≡ true) ⊎ (spent ≡ true))
+  is-held = is-or (is-self pending) (is-self spent)
+
+  pub marks-start : (running || pending) && not (eqb b 0) ≡ true → Is false Marks
+  marks-start t = let x = told-yes is-marked t in tell-no (λ m. x .1 (m .idle (x .0)))
+
+  module _ (l : (running || pending) && not (eqb b 0) ≡ false) where
+    idle : (running ≡ true) ⊎ (pending ≡ true) → b ≡ 0
+    idle y = stable (is-dec (is-eq b 0)) (λ n. told-no is-marked l (y, n))
+
+    pub marks-none : pending || spent ≡ true → Is (eqb c 0) Marks
+    marks-none e = let h = told-yes is-held e in is-map (λ z. record { idle = idle; none = λ _. z; some = λ n. absurd (n h) }) (λ m. m .none h) (is-eq c 0)
+
+    pub marks-some : pending || spent ≡ false → Is (eqb c 1 || (eqb c 2 && not (eqb b 0))) Marks
+    marks-some e =
+        let n = told-no is-held e in
+        is-map (λ x. record { idle = idle; none = λ h. absurd (n h); some = λ _. x }) (λ m. m .some n)
+        (is-or (is-eq c 1) (is-and (is-eq c 2) (is-map (λ n. omega arith) (λ l e. omega arith) (is-not (is-eq b 0)))))
 
 pub one-bit : (b : Bool) → boolByte b ≤ 1
 one-bit true = omega arith

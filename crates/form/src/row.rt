@@ -6,14 +6,15 @@ ghost use lib.Dec.{eqb};
 ghost use Rattle.plant.specs.Reflect.{Is};
 ghost use Rattle.sheet.specs.Form.{state-of, Good-entry};
 ghost use Rattle.state.specs.Clocks.{job-of, sheet-of};
-ghost use Rattle.form.specs.RowTest.{Job-fits, Holds, Tells, Ends, Code-fits};
+ghost use Rattle.form.specs.RowTest.{Job-fits, Pends, Spends, Tells, Ends, Marks-fit};
 use state::bits::has;
 use state::bits::status_in;
 
-// What a pass over the jobs tells: a job does not fit or two run; or else whether one runs, and whether the tick is not possible.
+// What a pass over the jobs tells: a job does not fit or two run; or else whether one runs, whether an arrival is pending, and
+// whether one has run for its most ticks.
 pub enum Seen {
     Refused,
-    Passed(bool, bool),
+    Passed(bool, bool, bool),
 }
 
 // A job's number as a u32, where no sum of two wraps.
@@ -58,11 +59,18 @@ fn job_fits(job: [u16; 4], s: u8, marked: bool, now: u32, elapsed: u32, opens: b
     (now + (opens as u32) <= a + wide(job[3])) & ((elapsed <= wide(job[2])) & (a + elapsed <= now))
 }
 
-// Whether this job keeps the tick from being possible: its arrival is pending, or it has run for its most ticks.
-fn holds(job: [u16; 4], s: u8, now: u32, elapsed: u32) -> bool
-    ensures { λ r. ⌜ Is r (Holds (job-of job) now elapsed s) ⌝ }
+// Whether this job's arrival is pending.
+fn pends(job: [u16; 4], s: u8, now: u32) -> bool
+    ensures { λ r. ⌜ Is r (Pends (job-of job) now s) ⌝ }
 {
-    ((s == 0) & (now == wide(job[0]))) | ((s == 2) & (elapsed == wide(job[2])))
+    (s == 0) & (now == wide(job[0]))
+}
+
+// Whether this job has run for its most ticks.
+fn spends(job: [u16; 4], s: u8, elapsed: u32) -> bool
+    ensures { λ r. ⌜ Is r (Spends (job-of job) elapsed s) ⌝ }
+{
+    (s == 2) & (elapsed == wide(job[2]))
 }
 
 // One pass over the jobs. What is told of the jobs passed grows by one job at each turn.
@@ -74,22 +82,25 @@ fn pass(jobs: [[u16; 4]; 8], n: u8, word: u32, starts: u8, code: u8) -> Seen
     let elapsed = elapsed_of(word);
     let opens = code == 1;
     let mut running = false;
-    let mut held = false;
+    let mut pending = false;
+    let mut spent = false;
     let mut k: u8 = 0;
     while k < n {
+        let job = jobs[k as usize];
         let s = status_in(word, k + 1);
         let marked = has(starts, k + 1);
-        if !job_fits(jobs[k as usize], s, marked, now, elapsed, opens) {
+        if !job_fits(job, s, marked, now, elapsed, opens) {
             return Seen::Refused;
         }
         if running & (s == 2) {
             return Seen::Refused;
         }
         running = running | (s == 2);
-        held = held | holds(jobs[k as usize], s, now, elapsed);
+        pending = pending | pends(job, s, now);
+        spent = spent | spends(job, s, elapsed);
         k += 1;
     }
-    Seen::Passed(running, held)
+    Seen::Passed(running, pending, spent)
 }
 
 // Whether no status and no start stands past the last of n jobs: what is left of them above n is 0.
@@ -114,11 +125,15 @@ fn all_done(word: u32, n: u8) -> bool
     word & 65535 == (1u32 << (2 * n)) - 1
 }
 
-// Whether the tick code is 0 exactly where the tick is not possible, otherwise 1, or 2 with some start.
-fn code_fits(held: bool, starts: u8, code: u8) -> bool
-    ensures { λ r. ⌜ Is r (Code-fits (held ≡ true) starts code) ⌝ }
+// Whether the marks fit: no start while a job runs or an arrival is pending; the tick code 0 exactly where the tick is not possible,
+// otherwise 1, or 2 with some start.
+fn marks_fit(running: bool, pending: bool, spent: bool, starts: u8, code: u8) -> bool
+    ensures { λ r. ⌜ Is r (Marks-fit (running ≡ true) (pending ≡ true) (spent ≡ true) starts code) ⌝ }
 {
-    if held {
+    if (running | pending) & (starts != 0) {
+        return false;
+    }
+    if pending | spent {
         return code == 0;
     }
     (code == 1) | ((code == 2) & (starts != 0))
@@ -135,17 +150,11 @@ pub fn row_good(jobs: [[u16; 4]; 8], n: u8, word: u32, starts: u8, code: u8) -> 
     if all_done(word, n) {
         return (word <= 65535) & ((starts == 0) & (code == 1));
     }
-    let Seen::Passed(running, held) = pass(jobs, n, word, starts, code) else {
+    let Seen::Passed(running, pending, spent) = pass(jobs, n, word, starts, code) else {
         return false;
     };
-    if running {
-        if starts != 0 {
-            return false;
-        }
-        return code_fits(held, starts, code);
-    }
-    if elapsed_of(word) != 0 {
+    if !running & (elapsed_of(word) != 0) {
         return false;
     }
-    code_fits(held, starts, code)
+    marks_fit(running, pending, spent, starts, code)
 }

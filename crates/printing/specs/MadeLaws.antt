@@ -24,10 +24,10 @@ use Rattle.maker.specs.Making as making
 use Rattle.maker.specs.declared.MakeReply.{MakeReply}
 use Rattle.table.specs.Reading.{Table, Says, good}
 use Rattle.table.specs.RoundTrip.{table-says}
-use Rattle.text.specs.Lines.{listing-text, refusal-text}
+use Rattle.lines.specs.Lines.{listing-text, refusal-text}
 use Rattle.text.specs.SheetText.{most-numbers, Spells, Reads}
 use Rattle.text.specs.GroupLaws.{flat, flat-length, flat-values}
-use Rattle.text.specs.Digits.{value}
+use Rattle.lines.specs.Digits.{value}
 use Rattle.text.specs.declared.read.Parsed.{Parsed}
 use Rattle.printing.specs.Prints.{Sheet-text, bad-job, too-many, impossible, listed}
 

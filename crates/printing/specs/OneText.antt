@@ -15,12 +15,12 @@ use Rattle.state.specs.Lowest.{lowest-bad}
 use Rattle.state.specs.LowestLaws.{good-sheet}
 use Rattle.live.specs.Growing.{most-live}
 use Rattle.maker.specs.Making.{lent}
-use Rattle.text.specs.Lines.{listing-text}
+use Rattle.lines.specs.Lines.{listing-text}
 use Rattle.text.specs.SheetText.{Spells}
 use Rattle.text.specs.Fields.{ending, run, Numbers}
 use Rattle.text.specs.GroupLaws.{flat, flat-length, flat-run, flat-each}
 use Rattle.text.specs.ReadLaws.{spells-one}
-use Rattle.text.specs.PrintedLaws.{printed-length}
+use Rattle.lines.specs.PrintedLaws.{printed-length}
 use Rattle.printing.specs.Prints.{Sheet-text, bad-job, too-many, impossible, listed, Prints, Text-printed}
 
 -- One text ------------------------------------------------------------------------------------------------------------

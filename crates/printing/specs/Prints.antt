@@ -12,9 +12,9 @@ use Rattle.state.specs.Lowest.{lowest-bad}
 use Rattle.blocks.specs.Sizes.{most-rows}
 use Rattle.live.specs.Growing.{most-live}
 use Rattle.maker.specs.Making.{lent}
-use Rattle.text.specs.Lines.{line-bytes, listing-text, refusal-text}
+use Rattle.lines.specs.Lines.{line-bytes, listing-text, refusal-text}
 use Rattle.text.specs.SheetText.{Spells}
-use Rattle.text.specs.Printed.{Printed}
+use Rattle.lines.specs.Printed.{Printed}
 
 -- what is printed for a sheet's numbers: the listing of its table, or refusal 2, 4 or 5
 pub data Sheet-text (numbers printed : List ℕ) : Type 0 where

@@ -5,7 +5,7 @@ use Rattle.blocks.specs.File.{joined}
 use Rattle.blocks.specs.Held.{tab}
 use Rattle.blocks.specs.Fields.{row-from}
 use Rattle.table.specs.Places.{place}
-use Rattle.text.specs.Lines.{row-line}
+use Rattle.lines.specs.Lines.{row-line}
 
 abbrev pub lines-of : (n : ℕ) (file : List ℕ) (count : ℕ) → List ℕ
 lines-of n file count = joined (map (row-line n) (tab count (λ i. row-from file (place i))))

@@ -19,7 +19,7 @@ use Rattle.table.specs.Reading.{Says, good}
 use Rattle.table.specs.ReadingLaws.{at-block, jobs-count}
 use Rattle.table.specs.Places.{place}
 use Rattle.table.specs.PlaceLaws.{row-placed}
-use Rattle.text.specs.Lines.{row-line, listing-text, header-line}
+use Rattle.lines.specs.Lines.{row-line, listing-text, header-line}
 use Rattle.printing.specs.RowLines.{lines-of}
 
 -- one line more

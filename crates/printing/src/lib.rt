@@ -8,8 +8,8 @@ ghost use Rattle.printing.specs.Prints.{most-printed, Sheet-printed, Tex
 pub mod listing;
 
 use crate::listing::put_listing;
+use lines::put_refusal;
 use maker::make;
-use text::print::put_refusal;
 use text::read::parse;
 
 // The most bytes that a text of good form has, and one more, so that a longer text is seen to be longer.

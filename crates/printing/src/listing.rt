@@ -8,15 +8,15 @@ ghost use Rattle.blocks.specs.Sizes.{slot-bytes, most-jobs, most-rows};
 ghost use Rattle.blocks.specs.Fields.{row-from};
 ghost use Rattle.table.specs.Reading.{Says, good};
 ghost use Rattle.table.specs.Places.{place, Good-file};
-ghost use Rattle.text.specs.Lines.{line-bytes, row-line, listing-text};
-ghost use Rattle.text.specs.Printed.{Printed};
+ghost use Rattle.lines.specs.Lines.{line-bytes, row-line, listing-text};
+ghost use Rattle.lines.specs.Printed.{Printed};
 ghost use Rattle.printing.specs.Prints.{most-printed};
 ghost use Rattle.printing.specs.RowLines.{lines-of};
 use blocks::numbers::read32;
+use lines::put_header;
+use lines::put_row;
 use table::place::count_rows;
 use table::place::place_of;
-use text::print::put_header;
-use text::print::put_row;
 
 // Prints row i, counted from 0, of a file with n jobs.
 fn put_row_at(out: &mut [u8], at: usize, file: &[u8], n: u8, i: usize) -> usize

@@ -52,7 +52,7 @@ pub record In-order (σ : Sheet) (q : State) : Type 0 where
 -- Marks -----------------------------------------------------------------------------------------------------------------
 
 pub record Fits (σ : Sheet) (q : State) (starts code : ℕ) : Type 0 where
-  -- "starts only of ready jobs and only if none runs"
+  -- "starts only of ready jobs and only if none runs"; "starts be empty while an arrival is pending" (02, #101)
   pub ready : (i : ℕ) → In 8 i → Has starts i → Possible σ q (start i)
   -- "code 0 exactly if the tick isn't possible, otherwise 1 or 2"
   pub none : code ≡ 0 → ¬ (Possible σ q tick)

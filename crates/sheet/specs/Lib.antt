@@ -12,4 +12,5 @@ pub mod LateLaws
 pub mod RowsLaws
 pub mod Demand3
 pub mod Sentences
+pub mod ArrivalsFirst
 pub mod Starred

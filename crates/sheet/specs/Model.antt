@@ -62,15 +62,20 @@ status q i = getD (q .statuses) (i - 1) 0
 abbrev pub initial : State
 initial = record { now = 0; elapsed = 0; statuses = replicate 8 0 }
 
--- "Arrival of i: .. status 0 and now = A." "Start of i: .. ready and none runs." "Ending of i: .. runs and elapsed ≥ B."
--- "Tick: .. no arrival is pending and no running job has elapsed = W."
+-- "status 0 and now = A. It is then *pending*."
+abbrev pub Pending : Sheet → State → ℕ → Type 0
+Pending σ q i = Names σ i × (status q i ≡ 0) × (q .now ≡ job σ i .arrives)
+
+abbrev pub None-pending : Sheet → State → Type 0
+None-pending σ q = (i : ℕ) → ¬ (Pending σ q i)
+
+-- "Arrival of i: .. It is then *pending*." "Start of i: .. ready and none runs", and (02, #101) "only when no arrival is pending".
+-- "Ending of i: .. runs and elapsed ≥ B." "Tick: .. no arrival is pending and no running job has elapsed = W."
 abbrev pub Possible : Sheet → State → Event → Type 0
-Possible σ q (arrival i) = Names σ i × (status q i ≡ 0) × (q .now ≡ job σ i .arrives)
-Possible σ q (start i) = Names σ i × (status q i ≡ 1) × ((j : ℕ) → Names σ j → status q j ≢ 2)
+Possible σ q (arrival i) = Pending σ q i
+Possible σ q (start i) = Names σ i × (status q i ≡ 1) × ((j : ℕ) → Names σ j → status q j ≢ 2) × None-pending σ q
 Possible σ q (ending i) = Names σ i × (status q i ≡ 2) × (job σ i .fewest ≤ q .elapsed)
-Possible σ q tick =
-    ((i : ℕ) → Names σ i → status q i ≡ 0 → q .now ≢ job σ i .arrives)
-    × ((i : ℕ) → Names σ i → status q i ≡ 2 → q .elapsed ≢ job σ i .most)
+Possible σ q tick = None-pending σ q × ((i : ℕ) → Names σ i → status q i ≡ 2 → q .elapsed ≢ job σ i .most)
 
 -- "all jobs are done"; and the same as a test
 abbrev pub Finished : Sheet → State → Type 0

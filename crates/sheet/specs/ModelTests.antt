@@ -7,20 +7,24 @@ use lib.ListN.{length}
 use lib.Dec.{eqb, leb, ltb}
 use Rattle.plant.specs.Plant.{Event, tick, arrival, start, ending}
 use Rattle.plant.specs.Search.{every, some}
-use Rattle.sheet.specs.Model.{Job, Sheet, Names, job, Good-job, Good, State, status, Possible, Finished, finished, busy, Late}
+use Rattle.sheet.specs.Model.{Job, Sheet, Names, job, Good-job, Good, State, status, None-pending, Possible, Finished, finished, busy, Late}
 use Rattle.plant.specs.Search.{In, find}
 use Rattle.plant.specs.Reflect.{Is, is-map, is-le, is-eq, is-and, is-and3, is-not, is-dec, stable, is-every, is-some}
 
 abbrev pub named : Sheet → ℕ → Bool
 named σ i = leb 1 i && leb i (length σ)
 
+abbrev pub pending : Sheet → State → ℕ → Bool
+pending σ q i = eqb (status q i) 0 && eqb (q .now) (job σ i .arrives)
+
+abbrev pub none-pending : Sheet → State → Bool
+none-pending σ q = every (length σ) (λ i. not (pending σ q i))
+
 abbrev pub possible : Sheet → State → Event → Bool
-possible σ q (arrival i) = named σ i && (eqb (status q i) 0 && eqb (q .now) (job σ i .arrives))
-possible σ q (start i) = named σ i && (eqb (status q i) 1 && not (busy σ q))
+possible σ q (arrival i) = named σ i && pending σ q i
+possible σ q (start i) = named σ i && (eqb (status q i) 1 && (not (busy σ q) && none-pending σ q))
 possible σ q (ending i) = named σ i && (eqb (status q i) 2 && leb (job σ i .fewest) (q .elapsed))
-possible σ q tick =
-    every (length σ) (λ i. not (eqb (status q i) 0 && eqb (q .now) (job σ i .arrives)))
-    && every (length σ) (λ i. not (eqb (status q i) 2 && eqb (q .elapsed) (job σ i .most)))
+possible σ q tick = none-pending σ q && every (length σ) (λ i. not (eqb (status q i) 2 && eqb (q .elapsed) (job σ i .most)))
 
 abbrev pub late : Sheet → State → Bool
 late σ q = some (length σ) (λ i. leb 1 (status q i) && (leb (status q i) 2 && ltb (job σ i .arrives + job σ i .due) (q .now)))
@@ -55,13 +59,20 @@ module _ (σ : Sheet) (q : State) where
   pub is-busy : Is (busy σ q) ((j : ℕ) × Names σ j × (status q j ≡ 2))
   is-busy = is-some (length σ) (λ j h. is-eq (status q j) 2)
 
+  is-pending : (i : ℕ) → Is (pending σ q i) ((status q i ≡ 0) × (q .now ≡ job σ i .arrives))
+  is-pending i = is-and (is-eq (status q i) 0) (is-eq (q .now) (job σ i .arrives))
+
+  pub is-none-pending : Is (none-pending σ q) (None-pending σ q)
+  is-none-pending = is-map (λ f i w. f i (w .0) (w .1, w .2)) (λ f i h w. f i (h, w .0, w .1)) (is-every (length σ) (λ i h. is-not (is-pending i)))
+
   pub is-possible : (e : Event) → Is (possible σ q e) (Possible σ q e)
-  is-possible (arrival i) = is-and3 (is-named i) (is-eq (status q i) 0) (is-eq (q .now) (job σ i .arrives))
-  is-possible (start i) = is-and3 (is-named i) (is-eq (status q i) 1) (is-map (λ n j h e. n (j, h, e)) (λ f w. f (w .0) (w .1) (w .2)) (is-not is-busy))
+  is-possible (arrival i) = is-map (λ w. (w .0, w .1 .0, w .1 .1)) (λ p. (p .0, (p .1, p .2))) (is-and (is-named i) (is-pending i))
+  is-possible (start i) =
+      is-map (λ w. (w .0, w .1, w .2 .0, w .2 .1)) (λ p. (p .0, p .1, (p .2, p .3)))
+      (is-and3 (is-named i) (is-eq (status q i) 1) (is-and (is-map (λ n j h e. n (j, h, e)) (λ f w. f (w .0) (w .1) (w .2)) (is-not is-busy)) is-none-pending))
   is-possible (ending i) = is-and3 (is-named i) (is-eq (status q i) 2) (is-le (job σ i .fewest) (q .elapsed))
   is-possible tick =
-      is-and
-      (is-every (length σ) (λ i h. curry (is-not (is-and (is-eq (status q i) 0) (is-eq (q .now) (job σ i .arrives))))))
+      is-and is-none-pending
       (is-every (length σ) (λ i h. curry (is-not (is-and (is-eq (status q i) 2) (is-eq (q .elapsed) (job σ i .most))))))
     where
       curry : {b : Bool} {P Q : Type 0} → Is b (¬ (P × Q)) → Is b (P → ¬ Q)
@@ -91,7 +102,7 @@ module _ (σ : Sheet) (q : State) where
 
   pub tick-or : Possible σ q tick ⊎ Held
   tick-or =
-      go (find (length σ) (λ i. (status q i ≡ 0) × (q .now ≡ job σ i .arrives)) (λ i. is-dec (is-and (is-eq (status q i) 0) (is-eq (q .now) (job σ i .arrives)))))
+      go (find (length σ) (λ i. (status q i ≡ 0) × (q .now ≡ job σ i .arrives)) (λ i. is-dec (is-pending i)))
       (find (length σ) (λ i. (status q i ≡ 2) × (q .elapsed ≡ job σ i .most)) (λ i. is-dec (is-and (is-eq (status q i) 2) (is-eq (q .elapsed) (job σ i .most)))))
     where
       go : ((i : ℕ) × In (length σ) i × ((status q i ≡ 0) × (q .now ≡ job σ i .arrives))) ⊎ ((i : ℕ) → In (length σ) i → ¬ ((status q i ≡ 0) × (q .now ≡ job σ i .arrives)))
@@ -99,4 +110,4 @@ module _ (σ : Sheet) (q : State) where
           → Possible σ q tick ⊎ Held
       go (inl w) s = inr (inl (w .0, (w .1, w .2 .0, w .2 .1)))
       go (inr f) (inl w) = inr (inr (w .0, w .1, w .2 .0, w .2 .1))
-      go (inr f) (inr g) = inl ((λ i h z n. f i h (z, n)), (λ i h z n. g i h (z, n)))
+      go (inr f) (inr g) = inl ((λ i w. f i (w .0) (w .1, w .2)), (λ i h z n. g i h (z, n)))

@@ -3,7 +3,7 @@ use Prim.Native.Nat.{ℕ, _+_, _-_, _≤_}
 use native.Mathlib.Omega.{arith}
 use native.Mathlib.Decide.{ℕ-discrete, decLe}
 use mathlib.Core.Path.{_≡_, refl, sym, ap, subst, _∙_}
-use mathlib.Core.Logic.{_⊎_, inl, inr}
+use mathlib.Core.Logic.{_≢_, _⊎_, inl, inr}
 use mathlib.Core.Bool.{Bool, true, false, cond, _&&_}
 use mathlib.Core.List.{List}
 use lib.ListN.{length, set, getD}
@@ -125,7 +125,7 @@ module _ (σ : Sheet) (few : length σ ≤ 8) where
   }
     where
       waiting : (e : Event) → Possible σ q e → (j : ℕ) → Names σ j → status q j ≡ 0 → on e (q .now) ≤ job σ j .arrives
-      waiting tick p j k z = omega (arith, f .waiting j k z, p .0 j k z)
+      waiting tick p j k z = let n : q .now ≢ job σ j .arrives = λ a. p .0 j (k, z, a) in omega (arith, f .waiting j k z)
       waiting (arrival i) p j k z = f .waiting j k z
       waiting (start i) p j k z = f .waiting j k z
       waiting (ending i) p j k z = f .waiting j k z

@@ -40,19 +40,19 @@ stars =
     -- 3 to 7: S2, 20 rows; at word 1 only the tick, at 16777221 job 2 held, at 33554445 job 1 or the tick, at 50331661 job 1 held
     ∷ record {
       sheet = j 0 2 4 7 ∷ j 1 1 2 4 ∷ [];
-      live = 82;
+      live = 81;
       rows =
           r 0 0 0 ∷ r 1 0 1 ∷ r 15 0 1 ∷ r 16777217 0 0 ∷ r 16777221 2 2 ∷ r 16777225 0 1 ∷ r 33554445 1 1 ∷ r 33554446 0 1 ∷ r 33619977 0 1 ∷ r 50331661 1 2
           ∷ r 50331662 0 1 ∷ r 50397198 0 1 ∷ r 50462729 0 0 ∷ r 67174414 0 1 ∷ r 67239950 0 1 ∷ r 84017166 0 1 ∷ r 84082702 0 1 ∷ r 100859918 0 1 ∷ r 100925454 0 0 ∷ r 117702670 0 0 ∷ [];
     }
     -- 8: impossible, though a lucky run meets both
-    ∷ record { sheet = j 0 1 2 2 ∷ j 0 1 1 2 ∷ []; live = 30; rows = [] }
-    -- 9: the same line twice, 17 rows
+    ∷ record { sheet = j 0 1 2 2 ∷ j 0 1 1 2 ∷ []; live = 28; rows = [] }
+    -- 9: the same line twice, 15 rows (02, #101)
     ∷ record {
       sheet = j 0 1 1 2 ∷ j 0 1 1 2 ∷ [];
-      live = 29;
+      live = 27;
       rows =
-          r 0 0 0 ∷ r 1 1 0 ∷ r 2 0 0 ∷ r 4 2 0 ∷ r 5 3 2 ∷ r 6 0 1 ∷ r 8 0 0 ∷ r 9 0 1 ∷ r 15 0 1 ∷ r 16777223 2 2
+          r 0 0 0 ∷ r 1 0 0 ∷ r 4 0 0 ∷ r 5 3 2 ∷ r 6 0 1 ∷ r 9 0 1 ∷ r 15 0 1 ∷ r 16777223 2 2
           ∷ r 16777227 0 1 ∷ r 16777229 1 2 ∷ r 16777230 0 1 ∷ r 16842758 0 0 ∷ r 16842761 0 0 ∷ r 33619979 0 0 ∷ r 33619982 0 0 ∷ [];
     }
     ∷ []

@@ -6,9 +6,9 @@ use mathlib.Core.List.{List, [], _∷_, _++_}
 use Rattle.sheet.specs.Table.{Entry}
 use Rattle.sheet.specs.Form.{digits}
 use Rattle.blocks.specs.File.{joined}
-use Rattle.text.specs.Words.{bytes}
-use Rattle.text.specs.Digits.{digit, value-on, last-digits}
-use Rattle.text.specs.Lines.{line, jobs-text, listing-text}
+use Rattle.lines.specs.Words.{bytes}
+use Rattle.lines.specs.Digits.{digit, value-on, last-digits}
+use Rattle.lines.specs.Lines.{line, jobs-text, listing-text}
 use Rattle.text.specs.SheetText.{Number, Spells}
 use Rattle.text.specs.Fields.{run}
 use Rattle.text.specs.GroupLaws.{run-spells}

@@ -8,8 +8,8 @@ use mathlib.Core.Path.{_≡_, refl, sym, ap, subst, _∙_}
 use mathlib.Core.List.{List, _∷_, _++_}
 use lib.ListN.{length, getD, take, drop, length-append, List·getD-append}
 use lib.Seq.{take-suc, length-take-le, getD-take, split-at, getD-append-seam}
-use Rattle.text.specs.Digits.{digit, Digit, value-on}
-use Rattle.text.specs.DigitsLaws.{value-snoc}
+use Rattle.lines.specs.Digits.{digit, Digit, value-on}
+use Rattle.lines.specs.DigitsLaws.{value-snoc}
 use Rattle.text.specs.SheetText.{Number}
 use Rattle.text.specs.Fields.{Passed, Fronted}
 

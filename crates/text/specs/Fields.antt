@@ -5,8 +5,8 @@ use mathlib.Core.Bool.{cond}
 use mathlib.Core.List.{List, [], _∷_, _++_, map}
 use lib.ListN.{length, getD, take, drop, replicate}
 use lib.Dec.{eqb}
-use Rattle.text.specs.Digits.{Digit, value}
-use Rattle.text.specs.Lines.{space, line-end}
+use Rattle.lines.specs.Digits.{Digit, value}
+use Rattle.lines.specs.Lines.{space, line-end}
 use Rattle.text.specs.SheetText.{Number, most-numbers}
 use Rattle.text.specs.declared.read.Found.{Found}
 use Rattle.text.specs.declared.read.Found.the-variants.{Digits, Nothing}

@@ -7,8 +7,8 @@ use mathlib.Core.List.{List, [], _∷_, map, append-assoc, List·Memᴰ, List·M
 use lib.ListN.{length}
 use Rattle.blocks.specs.Sizes.{most-jobs}
 use Rattle.blocks.specs.File.{joined}
-use Rattle.text.specs.Digits.{value}
-use Rattle.text.specs.Lines.{line}
+use Rattle.lines.specs.Digits.{value}
+use Rattle.lines.specs.Lines.{line}
 use Rattle.text.specs.SheetText.{Number, Four, fields, Spells}
 use Rattle.text.specs.Fields.{run, Numbers}
 use Rattle.text.specs.RunLaws.{ending-line, ending-space}

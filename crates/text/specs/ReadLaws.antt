@@ -10,7 +10,7 @@ use mathlib.Core.List.{List, [], _∷_, _++_, map, map-append, append-assoc, app
 use lib.ListN.{length, take, drop, set, replicate, length-append, length-drop, length-map, drop-of-length-le}
 use lib.Seq.{set-at, drop-drop}
 use Rattle.blocks.specs.Sizes.{most-jobs}
-use Rattle.text.specs.Digits.{value}
+use Rattle.lines.specs.Digits.{value}
 use Rattle.text.specs.SheetText.{Number, Spells, most-numbers, taken, Reads}
 use Rattle.text.specs.Fields.{Fronted, ending, run, Numbers, So-far}
 use Rattle.text.specs.RunLaws.{goes-on, run-snoc}

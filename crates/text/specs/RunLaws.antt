@@ -7,8 +7,8 @@ use mathlib.Core.Path.{_≡_, refl, sym, ap, subst, _∙_}
 use mathlib.Core.List.{List, [], _∷_, _++_, append-assoc}
 use lib.ListN.{length, getD, drop, length-append}
 use borrow.Author.Tests.{eq-eqb, ne-eqb}
-use Rattle.text.specs.Digits.{Digit}
-use Rattle.text.specs.Lines.{space, line-end}
+use Rattle.lines.specs.Digits.{Digit}
+use Rattle.lines.specs.Lines.{space, line-end}
 use Rattle.text.specs.Fields.{ending, run, Numbers}
 
 -- The byte behind a number --------------------------------------------------------------------------------------------

@@ -7,8 +7,8 @@ use mathlib.Core.List.{List, [], _∷_, _++_, map, List·Memᴰ}
 use lib.ListN.{length, getD, replicate}
 use Rattle.blocks.specs.Sizes.{most-jobs}
 use Rattle.blocks.specs.File.{joined}
-use Rattle.text.specs.Digits.{Digit, value}
-use Rattle.text.specs.Lines.{line}
+use Rattle.lines.specs.Digits.{Digit, value}
+use Rattle.lines.specs.Lines.{line}
 use Rattle.text.specs.declared.read.Parsed.{Parsed}
 
 -- "numbers of one to three digits"

@@ -2,13 +2,13 @@
 ghost use mathlib.Core.Path.{_≡_};
 ghost use Prim.Native.Nat.{_-_, _≤_};
 ghost use lib.ListN.{length, drop};
-ghost use Rattle.text.specs.Digits.{digit, Digit};
+ghost use Rattle.lines.specs.Digits.{digit, Digit};
 ghost use Rattle.text.specs.SheetText.{Reads, refused};
 ghost use Rattle.text.specs.Fields.{Found-to, ending};
-use crate::bytes::LINE_END;
-use crate::bytes::NINE;
-use crate::bytes::SPACE;
-use crate::bytes::ZERO;
+use lines::bytes::LINE_END;
+use lines::bytes::NINE;
+use lines::bytes::SPACE;
+use lines::bytes::ZERO;
 
 // The numbers of eight jobs.
 const MOST: usize = 32;

@@ -1,7 +1,7 @@
 // Reads the text on standard input, then texts of other forms, and prints what each says; then prints 01's example and a refusal.
-use text::print::put_header;
-use text::print::put_refusal;
-use text::print::put_row;
+use lines::put_header;
+use lines::put_refusal;
+use lines::put_row;
 use text::read::parse;
 
 // The most bytes of a line.

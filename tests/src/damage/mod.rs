@@ -4,6 +4,7 @@
 mod chance;
 mod frame;
 mod length;
+mod marks;
 mod order;
 
 pub use chance::{bit_flipped, mixed, random_bytes};
@@ -63,6 +64,7 @@ pub fn all(table: &Table) -> Vec<Damaged> {
         }
     }
     list.extend(frame::jobs_broken(&file));
+    list.extend(marks::start_before_arrival(table));
     list.extend(order::rows_left_out(table));
     list.extend(length::lengths_broken(table, &file));
     list

@@ -153,7 +153,9 @@ fn status_in_order(job: Job, state: &State, status: u8) -> bool {
 pub fn marks_fit(sheet: &Sheet, state: &State, starts: u8, tick: u8) -> bool {
     let marked = |k: usize| starts & (1 << (k - 1)) != 0;
     let none_runs = state.running().is_none();
-    let starts_fit = (1..=MOST_JOBS).all(|k| !marked(k) || (state.status(k) == READY && none_runs));
+    let ready = |k: usize| state.status(k) == READY && none_runs;
+    let starts_fit = (1..=MOST_JOBS).all(|k| !marked(k) || ready(k))
+        && (starts == 0 || !state.any_pending(sheet));
     let possible = state.possible(sheet, Event::Tick);
     let tick_fits = match tick {
         TICK_NONE => !possible,

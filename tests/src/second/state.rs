@@ -99,19 +99,27 @@ impl State {
         self.status(job) == NOT_ARRIVED && self.now == sheet.job(job).arrival
     }
 
+    pub fn any_pending(&self, sheet: &Sheet) -> bool {
+        sheet.job_numbers().any(|i| self.pending(sheet, i))
+    }
+
+    /// Neither a start nor the tick is possible while an arrival is pending.
     pub fn possible(&self, sheet: &Sheet, event: Event) -> bool {
         match event {
             Event::Arrival(i) => self.pending(sheet, i),
-            Event::Start(i) => self.status(i) == READY && self.running().is_none(),
+            Event::Start(i) => self.start_possible(sheet, i),
             Event::Ending(i) => self.status(i) == RUNNING && self.elapsed >= sheet.job(i).fewest,
             Event::Tick => self.tick_possible(sheet),
         }
     }
 
+    fn start_possible(&self, sheet: &Sheet, job: usize) -> bool {
+        self.status(job) == READY && self.running().is_none() && !self.any_pending(sheet)
+    }
+
     fn tick_possible(&self, sheet: &Sheet) -> bool {
-        let pending = sheet.job_numbers().any(|i| self.pending(sheet, i));
         let must_end = self.running().map_or(false, |i| self.elapsed == sheet.job(i).most);
-        !pending && !must_end
+        !self.any_pending(sheet) && !must_end
     }
 
     /// Where a possible event leads. The last ending leads to the finished state, and so does

@@ -15,10 +15,10 @@ use Rattle.form.proofs.row.pass.Statement.{statement}
 use Rattle.form.proofs.row.pass.Tie as tie
 
 abbrev Inv-loop : tie.InvT-loop
-Inv-loop n word starts code jobs now elapsed opens running₀ held₀ k₀ running held k = (k ≤ n) × Tells (sheet-of jobs n) (state-of word) starts code k (Passed running held)
+Inv-loop n word starts code jobs now elapsed opens running₀ pending₀ spent₀ k₀ running pending spent k = (k ≤ n) × Tells (sheet-of jobs n) (state-of word) starts code k (Passed running pending spent)
 
 abbrev μ-loop : tie.MeasureT-loop
-μ-loop n word starts code jobs now elapsed opens running₀ held₀ k₀ running held k = n - k
+μ-loop n word starts code jobs now elapsed opens running₀ pending₀ spent₀ k₀ running pending spent k = n - k
 
 now-of-requires : tie.Need-now-of-requires Inv-loop μ-loop
 now-of-requires c κs = search needs
@@ -28,6 +28,15 @@ elapsed-of-requires c κs = search needs
 
 loop-holds : tie.Need-loop-holds Inv-loop μ-loop
 loop-holds c = let a = c .before .before .args in (search needs, pass-none (sheet-of (a .t1) (a .n)) (state-of (a .word)) (a .starts) (a .code))
+
+cast-job : tie.Need-cast-job Inv-loop μ-loop
+cast-job c = search needs
+
+mul-job : tie.Need-mul-job Inv-loop μ-loop
+mul-job c = search needs
+
+array-copy-out-job : tie.Need-array-copy-out-job Inv-loop μ-loop
+array-copy-out-job c = search needs
 
 add-status-in : tie.Need-add-status-in Inv-loop μ-loop
 add-status-in c = search needs
@@ -41,40 +50,31 @@ add-has c = search needs
 has-requires : tie.Need-has-requires Inv-loop μ-loop
 has-requires c κs = search needs
 
-cast-job-fits : tie.Need-cast-job-fits Inv-loop μ-loop
-cast-job-fits c = search needs
-
-mul-job-fits : tie.Need-mul-job-fits Inv-loop μ-loop
-mul-job-fits c = search needs
-
-array-copy-out-job-fits : tie.Need-array-copy-out-job-fits Inv-loop μ-loop
-array-copy-out-job-fits c = search needs
-
 job-fits-requires : tie.Need-job-fits-requires Inv-loop μ-loop
-job-fits-requires c κs = (rw (c .before .before .status-in .ensures) (digits-lt 8 _ _), search needs)
+job-fits-requires c κs = (rw (c .before .status-in .ensures) (digits-lt 8 _ _), search needs)
 
 returns : tie.Need-returns Inv-loop μ-loop
 returns c =
     let a = c .before .before .before .before .before .before .before .before .before .args in
-    not-fit (a .t1) (a .n) (a .word) (a .starts) (a .code) (c .before .before .before .before .before .before .loop .k) (search needs) (c .before .before .before .before .status-in .result) (c .before .before .before .has .result) (c .before .before .before .before .status-in .ensures) (c .before .before .before .has .ensures)
+    let l = c .before .before .before .before .before .before .loop in
+    let st = c .before .before .before .status-in in
+    let m = c .before .before .has in
+    not-fit (a .t1) (a .n) (a .word) (a .starts) (a .code) (l .k) (search needs) (st .result) (m .result) (st .ensures) (m .ensures)
     (rw (c .before .before .before .before .before .before .before .before .now-of .ensures .0, c .before .before .before .before .before .before .before .elapsed-of .ensures .0) at (told-no (c .before .job-fits .ensures) (not-true _ (c .if1 .taken))))
 
 returns-2 : tie.Need-returns-2 Inv-loop μ-loop
 returns-2 c =
     let a = c .before .before .before .before .before .before .before .before .before .before .args in
-    two-run (a .t1) (a .n) (a .word) (a .starts) (a .code) (c .before .before .before .before .before .before .before .loop .k) (search needs) (c .before .before .before .before .before .status-in .result) (c .before .before .before .before .has .result) (c .before .before .before .before .before .status-in .ensures) (c .before .before .before .before .has .ensures) (c .before .before .before .before .before .before .before .loop .running) (c .before .before .before .before .before .before .before .loop .inv .1 .1) (c .if2 .taken)
+    let l = c .before .before .before .before .before .before .before .loop in
+    let st = c .before .before .before .before .status-in in
+    let m = c .before .before .before .has in
+    two-run (a .t1) (a .n) (a .word) (a .starts) (a .code) (l .k) (search needs) (st .result) (m .result) (st .ensures) (m .ensures) (l .running) (l .inv .1 .1) (c .if2 .taken)
 
-cast-holds : tie.Need-cast-holds Inv-loop μ-loop
-cast-holds c = search needs
+pends-requires : tie.Need-pends-requires Inv-loop μ-loop
+pends-requires c κs = search needs
 
-mul-holds : tie.Need-mul-holds Inv-loop μ-loop
-mul-holds c = search needs
-
-array-copy-out-holds : tie.Need-array-copy-out-holds Inv-loop μ-loop
-array-copy-out-holds c = search needs
-
-holds-requires : tie.Need-holds-requires Inv-loop μ-loop
-holds-requires c κs = search needs
+spends-requires : tie.Need-spends-requires Inv-loop μ-loop
+spends-requires c κs = search needs
 
 add-k : tie.Need-add-k Inv-loop μ-loop
 add-k c = search needs
@@ -84,10 +84,15 @@ loop-less c = search needs
 
 loop-again : tie.Need-loop-again Inv-loop μ-loop
 loop-again c =
-    let a = c .before .before .before .before .before .before .before .before .before .before .before .before .args in (
+    let a = c .before .before .before .before .before .before .before .before .before .before .before .before .args in
+    let l = c .before .before .before .before .before .before .before .before .before .loop in
+    let st = c .before .before .before .before .before .before .status-in in
+    let m = c .before .before .before .before .before .has in
+    let n = c .before .before .before .before .before .before .before .before .before .before .before .now-of .ensures .0 in
+    let e = c .before .before .before .before .before .before .before .before .before .before .elapsed-of .ensures .0 in (
       search needs,
-      pass-more (a .t1) (a .n) (a .word) (a .starts) (a .code) (c .before .before .before .before .before .before .before .before .before .loop .k) (search needs) (c .before .before .before .before .before .before .before .status-in .result) (c .before .before .before .before .before .before .has .result) (c .before .before .before .before .before .before .before .status-in .ensures) (c .before .before .before .before .before .before .has .ensures) (c .before .before .before .before .before .before .before .before .before .loop .running) (c .before .before .before .before .before .before .before .before .before .loop .held) (c .holds .result)
-          (rw (c .before .before .before .before .before .before .before .before .before .before .before .now-of .ensures .0, c .before .before .before .before .before .before .before .before .before .before .elapsed-of .ensures .0) at (told-yes (c .before .before .before .before .job-fits .ensures) (not-false _ (c .before .before .before .if1 .left)))) (c .before .before .if2 .left) (rw (c .before .before .before .before .before .before .before .before .before .before .before .now-of .ensures .0, c .before .before .before .before .before .before .before .before .before .before .elapsed-of .ensures .0) at (c .holds .ensures)) (c .before .before .before .before .before .before .before .before .before .loop .inv .1),
+      pass-more (a .t1) (a .n) (a .word) (a .starts) (a .code) (l .k) (search needs) (st .result) (m .result) (st .ensures) (m .ensures) (l .running) (l .pending) (l .spent) (c .before .pends .result) (c .spends .result)
+          (rw (n, e) at (told-yes (c .before .before .before .before .job-fits .ensures) (not-false _ (c .before .before .before .if1 .left)))) (c .before .before .if2 .left) (rw n at (c .before .pends .ensures)) (rw e at (c .spends .ensures)) (l .inv .1),
     )
 
 returns-3 : tie.Need-returns-3 Inv-loop μ-loop
@@ -105,20 +110,18 @@ pass-spec =
     now-of-requires
     elapsed-of-requires
     loop-holds
+    cast-job
+    mul-job
+    array-copy-out-job
     add-status-in
     status-in-requires
     add-has
     has-requires
-    cast-job-fits
-    mul-job-fits
-    array-copy-out-job-fits
     job-fits-requires
     returns
     returns-2
-    cast-holds
-    mul-holds
-    array-copy-out-holds
-    holds-requires
+    pends-requires
+    spends-requires
     add-k
     loop-less
     loop-again

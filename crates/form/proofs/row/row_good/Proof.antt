@@ -6,7 +6,7 @@ use Rattle.sheet.specs.Form.{state-of}
 use Rattle.state.specs.Clocks.{sheet-of}
 use Rattle.state.specs.Tell.{told-yes, told-no}
 use Rattle.form.specs.RowTest.{Tells}
-use Rattle.form.specs.RowAnswers.{past-bad, done-row, jobs-bad, start-bad, runs-row, rest-bad, idle-row}
+use Rattle.form.specs.RowAnswers.{past-bad, done-row, jobs-bad, rest-bad, rest-row}
 use Rattle.form.proofs.row.row_good.Statement.{statement}
 use Rattle.form.proofs.row.row_good.Tie as tie
 
@@ -40,34 +40,26 @@ returns-3 c =
     let a = c .before .before .before .before .before .before .before .args in
     jobs-bad (a .jobs) (a .n) (a .word) (a .starts) (a .code) (search needs) (search needs) (told-yes (c .before .before .before .before .before .before .ends .ensures) (not-false _ (c .before .before .before .before .before .if1 .left))) (sym (c .before .before .before .before .all-done .ensures) ∙ c .before .before .before .if2 .left) (subst (Tells (sheet-of (a .jobs) (a .n)) (state-of (a .word)) (a .starts) (a .code) (a .n)) (c .enum-told .given .1) (c .before .before .pass .ensures))
 
+elapsed-of-requires : tie.Need-elapsed-of-requires
+elapsed-of-requires c κs = search needs
+
 returns-4 : tie.Need-returns-4
 returns-4 c =
     let a = c .before .before .before .before .before .before .before .before .before .before .args in
-    start-bad (a .jobs) (a .n) (a .word) (a .starts) (a .code) (search needs) (search needs) (told-yes (c .before .before .before .before .before .before .before .before .before .ends .ensures) (not-false _ (c .before .before .before .before .before .before .before .before .if1 .left))) (sym (c .before .before .before .before .before .before .before .all-done .ensures) ∙ c .before .before .before .before .before .before .if2 .left) (c .before .before .before .running .given .0 .0) (c .before .before .before .running .given .0 .1 .0) (subst (Tells (sheet-of (a .jobs) (a .n)) (state-of (a .word)) (a .starts) (a .code) (a .n)) (c .before .before .before .running .given .1) (c .before .before .before .before .before .pass .ensures)) (c .before .if3 .taken) (c .if4 .taken)
+    let g = c .before .before .before .running .given in
+    rest-bad (a .jobs) (a .n) (a .word) (a .starts) (a .code) (search needs) (search needs) (told-yes (c .before .before .before .before .before .before .before .before .before .ends .ensures) (not-false _ (c .before .before .before .before .before .before .before .before .if1 .left))) (sym (c .before .before .before .before .before .before .before .all-done .ensures) ∙ c .before .before .before .before .before .before .if2 .left) (g .0 .0) (g .0 .1 .0) (g .0 .1 .1 .0)
+    (subst (Tells (sheet-of (a .jobs) (a .n)) (state-of (a .word)) (a .starts) (a .code) (a .n)) (g .1) (c .before .before .before .before .before .pass .ensures)) (rw (c .before .elapsed-of .ensures .0) at (c .if3 .taken))
 
-code-fits-requires : tie.Need-code-fits-requires
-code-fits-requires c κs = search needs
+marks-fit-requires : tie.Need-marks-fit-requires
+marks-fit-requires c κs = search needs
 
 returns-5 : tie.Need-returns-5
 returns-5 c =
     let a = c .before .before .before .before .before .before .before .before .before .before .before .args in
-    runs-row (a .jobs) (a .n) (a .word) (a .starts) (a .code) (search needs) (search needs) (told-yes (c .before .before .before .before .before .before .before .before .before .before .ends .ensures) (not-false _ (c .before .before .before .before .before .before .before .before .before .if1 .left))) (sym (c .before .before .before .before .before .before .before .before .all-done .ensures) ∙ c .before .before .before .before .before .before .before .if2 .left) (c .before .before .before .before .running .given .0 .0) (c .before .before .before .before .running .given .0 .1 .0) (subst (Tells (sheet-of (a .jobs) (a .n)) (state-of (a .word)) (a .starts) (a .code) (a .n)) (c .before .before .before .before .running .given .1) (c .before .before .before .before .before .before .pass .ensures)) (search needs) (search needs) (c .code-fits .result) (c .code-fits .ensures) (c .before .before .if3 .taken) (c .before .if4 .left)
-
-elapsed-of-requires : tie.Need-elapsed-of-requires
-elapsed-of-requires c κs = search needs
-
-returns-6 : tie.Need-returns-6
-returns-6 c =
-    let a = c .before .before .before .before .before .before .before .before .before .before .before .args in
-    rest-bad (a .jobs) (a .n) (a .word) (a .starts) (a .code) (search needs) (search needs) (told-yes (c .before .before .before .before .before .before .before .before .before .before .ends .ensures) (not-false _ (c .before .before .before .before .before .before .before .before .before .if1 .left))) (sym (c .before .before .before .before .before .before .before .before .all-done .ensures) ∙ c .before .before .before .before .before .before .before .if2 .left) (c .before .before .before .before .running .given .0 .0) (c .before .before .before .before .running .given .0 .1 .0) (subst (Tells (sheet-of (a .jobs) (a .n)) (state-of (a .word)) (a .starts) (a .code) (a .n)) (c .before .before .before .before .running .given .1) (c .before .before .before .before .before .before .pass .ensures)) (c .before .before .if3 .left) (λ z. c .if5 .taken (c .before .elapsed-of .ensures .0 ∙ z))
-
-code-fits-requires-2 : tie.Need-code-fits-requires-2
-code-fits-requires-2 c κs = search needs
-
-returns-7 : tie.Need-returns-7
-returns-7 c =
-    let a = c .before .before .before .before .before .before .before .before .before .before .before .before .args in
-    idle-row (a .jobs) (a .n) (a .word) (a .starts) (a .code) (search needs) (search needs) (told-yes (c .before .before .before .before .before .before .before .before .before .before .before .ends .ensures) (not-false _ (c .before .before .before .before .before .before .before .before .before .before .if1 .left))) (sym (c .before .before .before .before .before .before .before .before .before .all-done .ensures) ∙ c .before .before .before .before .before .before .before .before .if2 .left) (c .before .before .before .before .before .running .given .0 .0) (c .before .before .before .before .before .running .given .0 .1 .0) (subst (Tells (sheet-of (a .jobs) (a .n)) (state-of (a .word)) (a .starts) (a .code) (a .n)) (c .before .before .before .before .before .running .given .1) (c .before .before .before .before .before .before .before .pass .ensures)) (search needs) (search needs) (c .code-fits2 .result) (c .code-fits2 .ensures) (c .before .before .before .if3 .left) (sym (c .before .before .elapsed-of .ensures .0) ∙ c .before .if5 .left)
+    let g = c .before .before .before .before .running .given in
+    rest-row (a .jobs) (a .n) (a .word) (a .starts) (a .code) (search needs) (search needs) (told-yes (c .before .before .before .before .before .before .before .before .before .before .ends .ensures) (not-false _ (c .before .before .before .before .before .before .before .before .before .if1 .left))) (sym (c .before .before .before .before .before .before .before .before .all-done .ensures) ∙ c .before .before .before .before .before .before .before .if2 .left) (g .0 .0) (g .0 .1 .0) (g .0 .1 .1 .0)
+    (subst (Tells (sheet-of (a .jobs) (a .n)) (state-of (a .word)) (a .starts) (a .code) (a .n)) (g .1) (c .before .before .before .before .before .before .pass .ensures)) (rw (c .before .before .elapsed-of .ensures .0) at (c .before .if3 .left))
+    (search needs) (search needs) (c .marks-fit .result) (c .marks-fit .ensures)
 
 pub row-good-spec : {M : Type 1} → statement M
 row-good-spec =
@@ -81,10 +73,7 @@ row-good-spec =
     enum-known-running
     enum-told
     returns-3
-    returns-4
-    code-fits-requires
-    returns-5
     elapsed-of-requires
-    returns-6
-    code-fits-requires-2
-    returns-7)
+    returns-4
+    marks-fit-requires
+    returns-5)

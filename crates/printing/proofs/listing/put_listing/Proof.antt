@@ -5,9 +5,9 @@ use mathlib.Core.List.{List}
 use native.Mathlib.Omega.{arith}
 use lib.ListN.{getD}
 use Rattle.table.specs.PlaceLaws.{rows-number, rows-few, places-end}
-use Rattle.text.specs.Printed.{Printed}
-use Rattle.text.specs.LineLaws.{header-length}
-use Rattle.text.specs.PrintedLaws.{printed-length, printed-then}
+use Rattle.lines.specs.Printed.{Printed}
+use Rattle.lines.specs.LineLaws.{header-length}
+use Rattle.lines.specs.PrintedLaws.{printed-length, printed-then}
 use Rattle.printing.specs.RowLinesLaws.{jobs-told, jobs-few, lines-listing}
 use borrow.Author.Needs.{needs}
 use Rattle.printing.proofs.listing.put_listing.Statement.{statement}

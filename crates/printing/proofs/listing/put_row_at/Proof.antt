@@ -4,8 +4,8 @@ use mathlib.Core.Path.{subst}
 use mathlib.Core.List.{List}
 use native.Mathlib.Omega.{arith}
 use lib.ListN.{getD}
-use Rattle.text.specs.LineLaws.{row-length}
-use Rattle.text.specs.Printed.{Printed}
+use Rattle.lines.specs.LineLaws.{row-length}
+use Rattle.lines.specs.Printed.{Printed}
 use Rattle.printing.specs.RowLinesLaws.{row-line-at}
 use borrow.Author.Needs.{needs}
 use Rattle.printing.proofs.listing.put_row_at.Statement.{statement}

@@ -2,9 +2,9 @@
 use Prim.Native.Nat.{_+_, _-_, _*_, _≤_}
 use mathlib.Core.Path.{_≡_}
 use native.Mathlib.Omega.{arith}
-use Rattle.text.specs.Lines.{line-bytes}
-use Rattle.text.specs.Printed.{Printed}
-use Rattle.text.specs.PrintedLaws.{printed-none, printed-length, printed-then}
+use Rattle.lines.specs.Lines.{line-bytes}
+use Rattle.lines.specs.Printed.{Printed}
+use Rattle.lines.specs.PrintedLaws.{printed-none, printed-length, printed-then}
 use Rattle.printing.specs.RowLines.{lines-of}
 use Rattle.printing.specs.RowLinesLaws.{lines-none, lines-more}
 use borrow.Author.Needs.{needs}

@@ -4,7 +4,7 @@ use native.Mathlib.Omega.{arith}
 use mathlib.Core.Path.{subst, _∙_}
 use lib.ListN.{drop, length-drop}
 use lib.Seq.{getD-drop}
-use Rattle.text.specs.Digits.{Digit}
+use Rattle.lines.specs.Digits.{Digit}
 use Rattle.text.specs.Fields.{Passed}
 use Rattle.text.specs.FieldLaws.{passed-none, passed-small, passed-more, passed-found, passed-other, passed-ended}
 use borrow.Author.Needs.{needs}

@@ -1,0 +1,18 @@
+-- A running job has had its most ticks. Assumes nothing.
+use borrow.Author.Needs.{needs}
+use Rattle.plant.specs.Reflect.{is-eq, is-and}
+use Rattle.state.specs.Clocks.{job-of}
+use Rattle.form.proofs.row.spends.Statement.{statement}
+use Rattle.form.proofs.row.spends.Tie as tie
+
+array-read-wide : tie.Need-array-read-wide
+array-read-wide c = search needs
+
+wide-requires : tie.Need-wide-requires
+wide-requires c κs = search needs
+
+returns : tie.Need-returns
+returns c = let a = c .before .args in rw (c .wide .ensures .0) (is-and (is-eq (a .s) 2) (is-eq (a .elapsed) (job-of (a .t1) .most)))
+
+pub spends-spec : {M : Type 1} → statement M
+spends-spec = tie.close (tie.spec array-read-wide wide-requires returns)
