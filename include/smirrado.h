@@ -2,7 +2,8 @@
  *
  * smirrado_make turns a sheet into a table file. The host keeps a desk, all zero at first, and tells smirrado_step each event.
  * smirrado_row says which jobs may be started in a state and whether the clock may tick, smirrado_leeway how long a job can
- * still wait, and smirrado_listing goes through the whole table. examples/night.c is a host.
+ * still wait, and smirrado_listing goes through the whole table. examples/night.c is a host. smirrado_engine judges small
+ * sheets in a second, plain way, for those who want to follow the judgement by hand.
  *
  * WHAT EVERY CALL KEEPS TO
  *
@@ -27,7 +28,7 @@
  * out and desk; they may share a sheet or a file that nobody changes.
  *
  * A call takes at most so many bytes of stack, counted from the caller's stack pointer down, the return address among them:
- * few enough for an interrupt's stack, but for make, which is to be called where there is room.
+ * few enough for an interrupt's stack, but for make and engine, which are to be called where there is room.
  * tests/c/stack.c measures this on a painted stack, over good and bad sheets, files and events, and the tests fail where a
  * call takes more. Where memcpy and memset are bound lazily, the first call of them runs the dynamic linker on that stack
  * too: that is not counted here. */
@@ -42,15 +43,17 @@
 #define SMIRRADO_LISTING_STACK 512
 #define SMIRRADO_LEEWAY_STACK 512
 #define SMIRRADO_STEP_STACK 512
+#define SMIRRADO_ENGINE_STACK 131072
 
 #define SMIRRADO_JOBS 8           /* the most jobs of a sheet */
+#define SMIRRADO_ENGINE_JOBS 4    /* the most jobs of a sheet that engine judges */
 #define SMIRRADO_WORK_WORDS 15748 /* the words that make works in: 62,992 bytes */
 #define SMIRRADO_FILE_BYTES 65536 /* the most bytes of a table file */
 
 /* The number of an answer, with its detail where it has one. */
 enum {
     SMIRRADO_DONE = 0,
-    SMIRRADO_BAD_SHEET_LENGTH = 1, /* not 4, 8, .. 32 numbers */
+    SMIRRADO_BAD_SHEET_LENGTH = 1, /* not 4, 8, .. 32 numbers; for engine not 4, 8, 12, 16 */
     SMIRRADO_BAD_JOB = 2,          /* a job of bad form; detail: the lowest such job, from 1 */
     SMIRRADO_WORK_TOO_SHORT = 3,   /* fewer than SMIRRADO_WORK_WORDS words */
     SMIRRADO_TOO_MANY_STATES = 4,  /* more than 7,874 live states */
@@ -89,6 +92,10 @@ struct smirrado_leeway_reply {
 };
 
 struct smirrado_step_reply {
+    uint32_t number, detail;
+};
+
+struct smirrado_engine_reply {
     uint32_t number, detail;
 };
 
@@ -187,5 +194,22 @@ struct smirrado_leeway_reply smirrado_leeway(const uint8_t *file, size_t bytes, 
  *
  * In a file that make did not write, a step may lead to a state that is no row; it is taken, and the next answers 8. */
 struct smirrado_step_reply smirrado_step(const uint8_t *file, size_t bytes, struct smirrado_desk *desk, uint8_t event);
+
+/* ENGINE: whether a sheet of up to four jobs can be scheduled, told by playing every run to its end. docs/ENGINE.md plays one
+ * by hand.
+ *
+ * Takes    sheet   as make does, of 1 to 4 jobs.
+ *
+ * Answers  0   the sheet can be scheduled
+ *          1   count is not 4, 8, 12 or 16
+ *          2   a job is of bad form; detail is the lowest such job
+ *          5   the sheet is impossible, as make says
+ *
+ * Leaves   everything as before.
+ *
+ * It has no limit of live states and needs no room to work in. It keeps no state that it has met: where two runs meet, it
+ * plays on twice, so that the time can double with every tick and job. It is for small sheets; on a large impossible one it
+ * does not come back in a lifetime. Each event that is still to come takes its part of the stack, at most 267 of them. */
+struct smirrado_engine_reply smirrado_engine(const uint16_t *sheet, size_t count);
 
 #endif

@@ -67,6 +67,17 @@ static int makes(const struct sheet *sheet)
     return good;
 }
 
+/* The engine's answer: make's, but that it has no limit of live states, within which these two can be scheduled, and four jobs. */
+static int judges(const struct sheet *sheet)
+{
+    uint16_t *numbers = copy_of(sheet->numbers, 2 * sheet->count);
+    struct smirrado_engine_reply reply = smirrado_engine(numbers, sheet->count);
+    free(numbers);
+    if (sheet->count > 4 * SMIRRADO_ENGINE_JOBS)
+        return reply.number == 1 && reply.detail == 0;
+    return reply.number == (sheet->number == 4 ? 0 : sheet->number) && reply.detail == sheet->detail;
+}
+
 /* A step from a state on a desk of its own: the desk afterwards tells whether it was taken. */
 static int steps(const uint8_t *file, size_t length, uint32_t word, int event, uint32_t *number)
 {
@@ -167,6 +178,7 @@ static int nulls(void)
     good &= smirrado_make(numbers, 4, NULL, 0, NULL, 0).number == 3;
     good &= smirrado_make(numbers, 4, work, SMIRRADO_WORK_WORDS, NULL, 0).detail == 1024;
     free(work);
+    good &= smirrado_engine(NULL, 0).number == 1;
     return good && refuses(NULL, 0, 7, 0);
 }
 
@@ -175,6 +187,7 @@ int main(void)
     for (int i = 0; i < SHEETS; i++) {
         uint8_t *file;
         test(sheets[i].what, makes(&sheets[i]));
+        test("the engine judges it", judges(&sheets[i]));
         if (sheets[i].number != 0)
             continue;
         made(&sheets[i], SMIRRADO_WORK_WORDS, sheets[i].length, &file);

@@ -43,6 +43,10 @@ STRUCT(smirrado_step_reply, 8, 4);
 FIELD(smirrado_step_reply, number, uint32_t, 0, 4);
 FIELD(smirrado_step_reply, detail, uint32_t, 4, 4);
 
+STRUCT(smirrado_engine_reply, 8, 4);
+FIELD(smirrado_engine_reply, number, uint32_t, 0, 4);
+FIELD(smirrado_engine_reply, detail, uint32_t, 4, 4);
+
 STRUCT(smirrado_desk, 10, 1);
 FIELD(smirrado_desk, now, uint8_t, 0, 1);
 FIELD(smirrado_desk, elapsed, uint8_t, 1, 1);

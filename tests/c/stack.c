@@ -11,7 +11,8 @@
 /* The stack of a call is this much longer than what the header says, so that a call that takes more is seen to. */
 enum { SPARE = 1 << 14 };
 
-static uint8_t stack[SMIRRADO_MAKE_STACK + SPARE]; /* make takes most */
+static uint8_t stack[SMIRRADO_MAKE_STACK + SPARE]; /* make and engine take most */
+_Static_assert(SMIRRADO_ENGINE_STACK <= SMIRRADO_MAKE_STACK, "engine's stack");
 static uint8_t *before; /* the stack pointer just before the call */
 
 /* What the calls are lent. */
@@ -30,6 +31,7 @@ static struct smirrado_row_reply row;
 static struct smirrado_listing_reply listing;
 static struct smirrado_leeway_reply leeway;
 static struct smirrado_step_reply stepped;
+static struct smirrado_engine_reply judged;
 
 /* Compiled without optimisation the stack pointer stays where it is from here to the call. */
 #define HERE __asm__ volatile("mov %%rsp, %0" : "=m"(before))
@@ -39,6 +41,7 @@ static void call_row(void) { HERE; row = smirrado_row(file, length, asked_word);
 static void call_listing(void) { HERE; listing = smirrado_listing(file, length, asked_number); }
 static void call_leeway(void) { HERE; leeway = smirrado_leeway(file, length, asked_word, asked_number); }
 static void call_step(void) { HERE; stepped = smirrado_step(file, length, &desk, event); }
+static void call_engine(void) { HERE; judged = smirrado_engine(sheet->numbers, sheet->count); }
 
 struct measured {
     const char *name;
@@ -51,6 +54,10 @@ static struct measured row_call = {"smirrado_row", call_row, SMIRRADO_ROW_STACK,
 static struct measured listing_call = {"smirrado_listing", call_listing, SMIRRADO_LISTING_STACK, 0, 0};
 static struct measured leeway_call = {"smirrado_leeway", call_leeway, SMIRRADO_LEEWAY_STACK, 0, 0};
 static struct measured step_call = {"smirrado_step", call_step, SMIRRADO_STEP_STACK, 0, 0};
+static struct measured engine_call = {"smirrado_engine", call_engine, SMIRRADO_ENGINE_STACK, 0, 0};
+
+/* Four jobs that can wait until tick 255: no sheet has more events to come. */
+static const struct sheet longest = {"longest runs", {0, 1, 1, 255, 0, 1, 1, 255, 0, 1, 1, 255, 0, 1, 1, 255}, 16, 0, 0, 0};
 
 static size_t depth(const struct measured *m, int pattern)
 {
@@ -116,10 +123,14 @@ static int told(const struct measured *m)
 
 int main(void)
 {
-    const struct measured *all[] = {&make_call, &row_call, &listing_call, &leeway_call, &step_call};
+    const struct measured *all[] = {&make_call, &row_call, &listing_call, &leeway_call, &step_call, &engine_call};
+    enum { CALLS = sizeof all / sizeof *all };
     int passed = 0;
+    sheet = &longest;
+    measure(&engine_call);
     for (int i = 0; i < SHEETS; i++) {
         sheet = &sheets[i];
+        measure(&engine_call);
         words = SMIRRADO_WORK_WORDS - 1, bytes = sizeof out;
         measure(&make_call);
         words = SMIRRADO_WORK_WORDS, bytes = 0;
@@ -136,8 +147,8 @@ int main(void)
         length--; /* no length of a file */
         measure_reading(1);
     }
-    for (int i = 0; i < 5; i++)
+    for (int i = 0; i < CALLS; i++)
         passed += told(all[i]);
-    printf("%d passed, %d failed\n", passed, 5 - passed);
-    return passed != 5;
+    printf("%d passed, %d failed\n", passed, CALLS - passed);
+    return passed != CALLS;
 }

@@ -1,7 +1,9 @@
 //! The product's calls through its C interface, on memory lent between guard pages.
 
 use crate::guarded::Lent;
-use crate::replies::{Desk, LeewayReply, ListingReply, MakeReply, RowReply, StepReply};
+use crate::replies::{
+    Desk, EngineReply, LeewayReply, ListingReply, MakeReply, RowReply, StepReply,
+};
 
 extern "C" {
     fn smirrado_make(
@@ -16,6 +18,7 @@ extern "C" {
     fn smirrado_listing(file: *const u8, bytes: usize, row_number: u32) -> ListingReply;
     fn smirrado_leeway(file: *const u8, bytes: usize, word: u32, job: u32) -> LeewayReply;
     fn smirrado_step(file: *const u8, bytes: usize, desk: *mut Desk, event: u8) -> StepReply;
+    fn smirrado_engine(sheet: *const u16, count: usize) -> EngineReply;
 }
 
 // SAFETY of all calls: each slice is lent with its own pointer and count, and stays lent during
@@ -44,4 +47,8 @@ pub fn leeway(file: &Lent<u8>, word: u32, job: u32) -> LeewayReply {
 pub fn step(file: &Lent<u8>, desk: &Lent<Desk>, event: u8) -> StepReply {
     assert!(desk.count() == 1, "one desk");
     unsafe { smirrado_step(file.pointer(), file.count(), desk.pointer(), event) }
+}
+
+pub fn engine(sheet: &Lent<u16>) -> EngineReply {
+    unsafe { smirrado_engine(sheet.pointer(), sheet.count()) }
 }

@@ -48,6 +48,13 @@ pub struct StepReply {
     pub detail: u32,
 }
 
+#[repr(C)]
+#[derive(Clone, Copy, Debug, Default, PartialEq, Eq)]
+pub struct EngineReply {
+    pub number: u32,
+    pub detail: u32,
+}
+
 /// The caller's record of the state: a byte each for now, elapsed and the eight statuses.
 #[repr(C)]
 #[derive(Clone, Copy, Debug, Default, PartialEq, Eq)]

@@ -1,5 +1,6 @@
 // The C interface: each call of the library under the name that include/smirrado.h gives it. Nothing is worked out here.
 ghost use mathlib.Core.Path.{_≡_};
+ghost use Rattle.engine.specs.Verdict.{Verdict};
 ghost use Rattle.maker.specs.Making.{Made};
 ghost use Rattle.table.specs.OneReading.{reading};
 ghost use Rattle.table.specs.Replies.{row-reply, listing-reply, leeway-reply};
@@ -43,4 +44,11 @@ pub extern "C" fn smirrado_step(file: &[u8], desk: &mut Desk, event: u8) -> Step
     let s = desk::step::step(file, *desk, event);
     *desk = s.desk;
     s.reply
+}
+
+#[no_mangle]
+pub extern "C" fn smirrado_engine(sheet: &[u16]) -> engine::EngineReply
+    ensures { λ r. ⌜ Verdict (now (sheet .entry)) r ⌝ }
+{
+    engine::engine(sheet)
 }

@@ -8,5 +8,6 @@ pub mod Demand1
 pub mod Demand2
 pub mod Demand3
 pub mod Promises
+pub mod Engine
 pub mod Starred
 pub mod Idle

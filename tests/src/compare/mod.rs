@@ -1,5 +1,6 @@
 //! Every call of the product against the second program: replies, and the buffers afterwards.
 
+mod judging;
 mod lending;
 mod making;
 mod questions;
@@ -19,6 +20,7 @@ pub fn run(seed: u64, cases: usize) {
     reading::run(seed, cases);
     walks::run(seed, cases);
     lending::run(seed, cases);
+    judging::run(seed, cases);
 }
 
 /// One test of many cases. Its first mismatch is printed whole.

@@ -1,14 +1,19 @@
-//! The calls: make, row, listing, leeway and step, with their refusals in order.
+//! The calls: make, row, listing, leeway, step and engine, with their refusals in order.
 
 use super::file::{write, BLOCK_BYTES, SLOTS};
 use super::form::{read, Table};
-use super::sheet::Sheet;
+use super::sheet::{Sheet, NUMBERS_A_JOB};
 use super::state::{Event, State, NOT_ARRIVED, READY};
 use super::table::{Live, Row, MOST_LIVE, TICK_OPEN};
-use crate::replies::{Desk, LeewayReply, ListingReply, MakeReply, RowReply, StepReply};
+use crate::replies::{
+    Desk, EngineReply, LeewayReply, ListingReply, MakeReply, RowReply, StepReply,
+};
 
 /// Work words that make asks for, and clears.
 pub const WORK_WORDS: usize = 15_748;
+
+/// The most jobs of a sheet that the engine judges.
+pub const ENGINE_JOBS: usize = 4;
 
 pub const BAD_LENGTH: u32 = 1;
 pub const BAD_JOB: u32 = 2;
@@ -66,6 +71,27 @@ fn made(numbers: &[u16], work: &mut [u32], out: &mut [u8]) -> Result<u32, Refusa
     }
     out[..file.len()].copy_from_slice(&file);
     Ok(file.len() as u32)
+}
+
+/// The engine's verdict, by the live states, however many they are.
+pub fn engine(numbers: &[u16]) -> EngineReply {
+    match judged(numbers) {
+        Ok(()) => EngineReply::default(),
+        Err((number, detail)) => EngineReply { number, detail },
+    }
+}
+
+fn judged(numbers: &[u16]) -> Result<(), Refusal> {
+    if numbers.len() > ENGINE_JOBS * NUMBERS_A_JOB {
+        return Err((BAD_LENGTH, 0));
+    }
+    let sheet = sheet_of(numbers)?;
+    let live = Live::of_sheet(&sheet, usize::MAX).ok_or((MANY_LIVE, 0u32))?;
+    if live.safe()[0] {
+        Ok(())
+    } else {
+        Err((NOT_SAFE, 0))
+    }
 }
 
 /// The file that a table of this many rows takes.
