@@ -38,7 +38,7 @@
 #include <stddef.h>
 #include <stdint.h>
 
-#define SMIRRADO_MAKE_STACK 262144
+#define SMIRRADO_MAKE_STACK 102400
 #define SMIRRADO_ROW_STACK 512
 #define SMIRRADO_LISTING_STACK 512
 #define SMIRRADO_LEEWAY_STACK 512
