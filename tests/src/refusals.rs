@@ -1,7 +1,7 @@
 //! Each call's answers and refusals in their order, worked by hand on S1 and S2.
 
 use crate::replies::{Desk, ListingReply};
-use crate::second::calls::{leeway, listing, row, step, table_of};
+use crate::second::calls::{engine, leeway, listing, row, step, table_of};
 use crate::second::file::write;
 use crate::second::sheet::{Job, Sheet};
 use crate::second::table::{Row, TICK_HELD, TICK_NONE, TICK_OPEN};
@@ -18,6 +18,7 @@ pub fn run() {
     test("step: a desk with a status above 3 is no row", status_above_3());
     test("step: event bytes of no kind are 9", event_bytes());
     test("step: a foreign file may lack the state entered", state_lacking());
+    test("engine: 1, 2, 5 in order, and 0 without a live limit", verdicts());
 }
 
 fn file_of(numbers: &[u16]) -> Result<Vec<u8>, String> {
@@ -191,4 +192,25 @@ fn state_lacking() -> Outcome {
     let (reply, after) = step(&file, Desk::default(), 1);
     same("the arrival", (reply.number, after), (0, desk(0, 0, 1, 0)))?;
     refused(&file, after, 17, (8, 0))
+}
+
+/// The sheets worked by hand; (0,255,255,255) has too many live states for make. Five jobs are 1, bad ones too.
+fn verdicts() -> Outcome {
+    let five = [0, 1, 1, 9].repeat(5);
+    let sheets: [(&[u16], u32, u32); 9] = [
+        (&S1, 0, 0),
+        (&S2, 0, 0),
+        (&[0, 1, 1, 2, 0, 1, 1, 2], 0, 0),
+        (&[0, 255, 255, 255], 0, 0),
+        (&[0, 1, 2, 2, 0, 1, 1, 2], 5, 0),
+        (&[0, 1, 2, 2, 0, 1, 1, 2, 0, 0, 1, 1], 2, 3),
+        (&[0, 1, 1], 1, 0),
+        (&five, 1, 0),
+        (&[0; 20], 1, 0),
+    ];
+    for (numbers, number, detail) in sheets {
+        let reply = engine(numbers);
+        same(&format!("{:?}", numbers), (reply.number, reply.detail), (number, detail))?;
+    }
+    Ok(())
 }
