@@ -1,9 +1,10 @@
 /* Smirrado: the table of a job sheet, for a host in C on x86-64 Linux. Link libhost.a.
  *
  * smirrado_make turns a sheet into a table file. The host keeps a desk, all zero at first, and tells smirrado_step each event.
- * smirrado_row says which jobs may be started in a state and whether the clock may tick, smirrado_leeway how long a job can
- * still wait, and smirrado_listing goes through the whole table. examples/night.c is a host. smirrado_engine judges small
- * sheets in a second, plain way, for those who want to follow the judgement by hand.
+ * smirrado_row says which jobs may be started in a state and whether the clock may tick, and smirrado_row_quick says it without
+ * reading the whole file; smirrado_leeway says how long a job can still wait, and smirrado_listing goes through the whole table.
+ * examples/night.c is a host. smirrado_engine judges small sheets in a second, plain way, for those who want to follow the
+ * judgement by hand.
  *
  * WHAT EVERY CALL KEEPS TO
  *
@@ -40,6 +41,7 @@
 
 #define SMIRRADO_MAKE_STACK 102400
 #define SMIRRADO_ROW_STACK 512
+#define SMIRRADO_ROW_QUICK_STACK 512
 #define SMIRRADO_LISTING_STACK 512
 #define SMIRRADO_LEEWAY_STACK 512
 #define SMIRRADO_STEP_STACK 512
@@ -138,7 +140,8 @@ struct smirrado_desk {
 struct smirrado_make_reply smirrado_make(const uint16_t *sheet, size_t count, uint32_t *work, size_t words,
                                          uint8_t *out, size_t bytes);
 
-/* The calls below take a file from anywhere and judge all of it each time, block by block; a file of bad form is not read.
+/* The calls below take a file from anywhere and judge it each time, block by block: all of it, but for smirrado_row_quick. A file of
+ * bad form is not read.
  * A file of good form that make did not write is read as it stands, and need not be safe to follow. */
 
 /* ROW: what may be started in a state, and whether the clock may tick.
@@ -151,6 +154,19 @@ struct smirrado_make_reply smirrado_make(const uint16_t *sheet, size_t count, ui
  *
  * Leaves   everything as before. */
 struct smirrado_row_reply smirrado_row(const uint8_t *file, size_t bytes, uint32_t word);
+
+/* ROW QUICK: the same from no more blocks than it takes. Block 0 is read, then the blocks of rows in order, up to the first that is
+ * bad or whose last word is not below the asked one: a row early in the file is told soon. On a file of good form the answer is
+ * smirrado_row's. A bad block behind those read is not seen.
+ *
+ * Takes    file, and the word of a state.
+ *
+ * Answers  0   starts and tick
+ *          7   a block that was read is bad; detail is that block, and 0 where the length is no file's
+ *          8   the word is no row of the blocks read
+ *
+ * Leaves   everything as before. */
+struct smirrado_row_reply smirrado_row_quick(const uint8_t *file, size_t bytes, uint32_t word);
 
 /* LISTING: the jobs, the count of rows, and one row by its number. Rows are numbered from 1, in ascending order of word.
  *

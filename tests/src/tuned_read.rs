@@ -184,12 +184,12 @@ fn good(sheet: &Sheet, at: &AtTick, row: &Row) -> bool {
         Some(full) => full,
         None => return false,
     };
-    let pending = waiting & at.pending;
-    let startable = if running == 0 && pending == 0 { ready } else { 0 };
+    let pending = waiting & at.pending != 0;
+    let startable = if running == 0 && !pending { ready } else { 0 };
     let tick_fits = match row.tick {
-        TICK_NONE => pending != 0 || full,
-        TICK_OPEN => pending == 0 && !full && (ready | running) & at.last == 0,
-        TICK_HELD => pending == 0 && !full && row.starts != 0,
+        TICK_NONE => pending || full,
+        TICK_OPEN => !pending && !full && (ready | running) & at.last == 0,
+        TICK_HELD => !pending && !full && row.starts != 0,
         _ => false,
     };
     in_order && spread(row.starts) & !startable == 0 && tick_fits

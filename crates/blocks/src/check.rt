@@ -7,18 +7,19 @@ ghost use Rattle.blocks.specs.Bytes.{check-of};
 use crate::numbers;
 use crate::sizes::BODY;
 
-// The check of a block: 1 plus the sum of (p + 1) × byte over the bytes before it. At each turn the sum is that of the bytes passed.
+// The check of a block: 1 plus the sum of (p + 1) × byte over the bytes before it. From the last of them down, each byte is added to a
+// sum and that sum to a sum of sums: the byte at p is then counted p + 1 times, and no weight is kept.
 pub fn check_of(block: &[u8]) -> u32
     requires { ⌜ length (now block) ≡ block-bytes ⌝ }
     ensures { λ r. ⌜ (r ≡ check-of (take body-bytes (now (block .entry)))) × (r ≤ most-check) ⌝ }
 {
-    let mut sum: u32 = 1;
-    let mut p: usize = 0;
-    let mut weight: u32 = 1;
-    while p < BODY {
-        sum += weight * numbers::wide32(block[p]);
-        p += 1;
-        weight += 1;
+    let mut sum: u32 = 0;
+    let mut sums: u32 = 1;
+    let mut p: usize = BODY;
+    while 0 < p {
+        p -= 1;
+        sum += numbers::wide32(block[p]);
+        sums += sum;
     }
-    sum
+    sums
 }

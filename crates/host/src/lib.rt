@@ -4,6 +4,7 @@ ghost use Rattle.engine.specs.Verdict.{Verdict};
 ghost use Rattle.maker.specs.Making.{Made};
 ghost use Rattle.table.specs.OneReading.{reading};
 ghost use Rattle.table.specs.Replies.{row-reply, listing-reply, leeway-reply};
+ghost use Rattle.quick.specs.Quick.{Quick};
 ghost use Rattle.desk.specs.Stepping.{step-reply};
 use desk::desk::Desk;
 use desk::step::StepReply;
@@ -20,6 +21,13 @@ pub extern "C" fn smirrado_row(file: &[u8], word: u32) -> table::row::RowReply
     ensures { λ r. ⌜ r ≡ row-reply word (reading (now (file .entry))) ⌝ }
 {
     table::row::row(file, word)
+}
+
+#[no_mangle]
+pub extern "C" fn smirrado_row_quick(file: &[u8], word: u32) -> table::row::RowReply
+    ensures { λ r. ⌜ Quick (now (file .entry)) word r ⌝ }
+{
+    quick::row_quick(file, word)
 }
 
 #[no_mangle]

@@ -1,10 +1,12 @@
 -- The loop over blocks is the reading. Assumes nothing.
 use Prim.Native.Nat.{ℕ, suc, _+_, _-_, _%_, _≤_, _<_}
 use native.Mathlib.Omega.{arith}
-use mathlib.Core.Path.{_≡_, refl, sym, _∙_}
+use mathlib.Core.Path.{_≡_, refl, sym, subst, _∙_}
 use mathlib.Core.Logic.{inl, inr}
+use mathlib.Core.Bool.{Bool, true, false}
 use mathlib.Core.List.{List, []}
 use lib.ListN.{length, getD}
+use Rattle.plant.specs.Reflect.{Is}
 use Rattle.sheet.specs.Model.{Sheet}
 use Rattle.sheet.specs.Table.{Entry, at}
 use Rattle.state.specs.Clocks.{sheet-of}
@@ -17,7 +19,7 @@ use Rattle.table.specs.Reading.{total, block-at, Sized, Reads}
 use Rattle.table.specs.ReadingLaws.{good-below}
 use Rattle.table.specs.BlockRight.{before, goes-on, went-on}
 use Rattle.table.specs.JobsRight.{jobs-in, sheet-in, jobs-open, opens-jobs}
-use Rattle.table.specs.Judging.{Judged}
+use Rattle.table.specs.Judging.{Opens, Opened, Judged}
 use Rattle.table.specs.declared.judge.Verdict.the-variants.{Bad, Good}
 
 -- the blocks below b are read
@@ -26,6 +28,13 @@ So-far file b = (k : ℕ) × (rows : List Entry) × (b ≡ suc k) × Reads file 
 
 pub sheet-is : (block : List ℕ) (js : List (List ℕ)) (n : ℕ) → js ≡ fours block → n ≡ getD block 3 0 → n ≤ 8 → sheet-of js n ≡ jobs-in block
 sheet-is block js n e d h = rw (e, ← d) (sheet-in block n h)
+
+-- what the test of a file's length and block 0 told
+pub opened-yes : (file : List ℕ) (b : Bool) → Opened file b → b ≡ true → Opens file
+opened-yes file b o e = subst (Opened file) e o
+
+pub opened-no : (file : List ℕ) (b : Bool) → Opened file b → b ≡ false → Judged file (Bad 0)
+opened-no file b o e = subst (Opened file) e o
 
 module _ (file : List ℕ) where
   pub sized-of : length file % block-bytes ≡ 0 → 1024 ≤ length file → length file ≤ 65536 → Sized file
@@ -37,6 +46,10 @@ module _ (file : List ℕ) where
   module _ (sized : Sized file) where
     pub first-bad : ¬ (Jobs-block (total file) (block-at file 0)) → Judged file (Bad 0)
     first-bad n = inr (sized, omega (arith, sized .long), (λ a h. absurd (omega arith)), λ g. n (opens-jobs file sized g))
+
+    pub opened : (b : Bool) → Is b (Jobs-block (total file) (block-at file 0)) → Opened file b
+    opened true t = (sized, t .holds tt)
+    opened false t = first-bad (λ p. t .passes p)
 
     pub first-good : Each-byte file → Jobs-block (total file) (block-at file 0) → So-far file 1
     first-good small t = (0, [], refl, jobs-open file sized small t)

@@ -9,7 +9,7 @@ use Rattle.sheet.specs.Table.{Entry, at}
 use Rattle.blocks.specs.Sizes.{block-bytes, block-slots}
 use Rattle.blocks.specs.Bytes.{u32-at}
 use Rattle.blocks.specs.Fields.{slot-at}
-use Rattle.table.specs.Reading.{Says, good}
+use Rattle.table.specs.Reading.{Sized, Reads, Says, good}
 use Rattle.table.specs.declared.place.Found.{Found}
 use Rattle.table.specs.declared.place.Found.the-variants.{Nowhere, At}
 
@@ -24,6 +24,10 @@ Ascends file n = (i j : ℕ) → i < j → j < n → u32-at file (place i) < u32
 -- a file of good form
 abbrev pub Good-file : List ℕ → Type 0
 Good-file file = (σ : Sheet) × (rows : List Entry) × Says file (good σ rows)
+
+-- there are `n` rows in the blocks read so far
+abbrev pub Read-rows : List ℕ → ℕ → Type 0
+Read-rows file n = (k : ℕ) × (σ : Sheet) × (rows : List Entry) × Sized file × Reads file k σ rows × (length rows ≡ n)
 
 -- no row has the word, or this one has
 abbrev pub Finds : List Entry → ℕ → Found → Type 0

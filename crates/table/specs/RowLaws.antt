@@ -9,10 +9,10 @@ use borrow.Author.Tests.{eq-eqb, ne-eqb}
 use Rattle.sheet.specs.Model.{Sheet}
 use Rattle.sheet.specs.Table.{Entry, at}
 use Rattle.blocks.specs.Fields.{row-from}
-use Rattle.table.specs.Reading.{good, Says}
+use Rattle.table.specs.Reading.{Sized, Reads}
 use Rattle.table.specs.Places.{place, Finds}
-use Rattle.table.specs.PlaceLaws.{climb, row-placed}
-use Rattle.table.specs.Replies.{Answers, refused, told, lookup, row-reply}
+use Rattle.table.specs.PlaceLaws.{climb, row-lies}
+use Rattle.table.specs.Replies.{refused, told, lookup}
 use Rattle.table.specs.declared.place.Found.the-variants.{Nowhere, At}
 
 lookup-at : (w : ℕ) (rows : List Entry) (i : ℕ) → i < length rows → ((j : ℕ) → j < i → at rows j .word ≢ w) → at rows i .word ≡ w → lookup w rows ≡ told (at rows i)
@@ -21,17 +21,14 @@ lookup-at w [] i h f e = absurd (omega arith)
 lookup-at w (r ∷ rows) zero h f e = rw (eq-eqb (r .word) w e) refl
 lookup-at w (r ∷ rows) (suc i) h f e = rw (ne-eqb (r .word) w (f 0 (omega arith))) (lookup-at w rows i (omega arith) (λ j l. f (suc j) (omega arith)) e)
 
-lookup-none : (w : ℕ) (rows : List Entry) → ((j : ℕ) → j < length rows → at rows j .word ≢ w) → lookup w rows ≡ refused 8 0
+pub lookup-none : (w : ℕ) (rows : List Entry) → ((j : ℕ) → j < length rows → at rows j .word ≢ w) → lookup w rows ≡ refused 8 0
 unfolding lookup
 lookup-none w [] f = refl
 lookup-none w (r ∷ rows) f = rw (ne-eqb (r .word) w (f 0 (omega arith))) (lookup-none w rows (λ j l. f (suc j) (omega arith)))
 
-module _ {file : List ℕ} {σ : Sheet} {rows : List Entry} (s : Says file (good σ rows)) (w : ℕ) where
-  pub row-none : Finds rows w Nowhere → Answers file (row-reply w) (refused 8 0)
-  row-none f = (good σ rows, s, sym (lookup-none w rows f))
-
-  pub row-found : (i : ℕ) → Finds rows w (At i) → Answers file (row-reply w) (told (row-from file (place i)))
-  row-found i f = (good σ rows, s, ap told (row-placed s i (f .0)) ∙ sym (lookup-at w rows i (f .0) before (f .1)))
-    where
-      before : (j : ℕ) → j < i → at rows j .word ≢ w
-      before j h e = omega (arith, climb (λ m. at rows m .word) (length rows) (s .1 .form .ascending) j i h (f .0), f .1)
+-- a row read and found is the row of its word
+pub lookup-found : {file : List ℕ} {k : ℕ} {σ : Sheet} {rows : List Entry} → Sized file → Reads file k σ rows → (w i : ℕ) → Finds rows w (At i) → told (row-from file (place i)) ≡ lookup w rows
+lookup-found {rows = rows} sized r w i f = ap told (row-lies sized r i (f .0)) ∙ sym (lookup-at w rows i (f .0) before (f .1))
+  where
+    before : (j : ℕ) → j < i → at rows j .word ≢ w
+    before j h e = omega (arith, climb (λ m. at rows m .word) (length rows) (r .form .ascending) j i h (f .0), f .1)

@@ -8,7 +8,7 @@ ghost use Rattle.blocks.specs.Sizes.{block-bytes, most-blocks, most-jobs};
 ghost use Rattle.form.specs.BlockTest.{Rows-block};
 ghost use Rattle.table.specs.Reading.{block-at};
 ghost use Rattle.table.specs.BlockRight.{before};
-ghost use Rattle.table.specs.Judging.{Judged};
+ghost use Rattle.table.specs.Judging.{Judged, Opened};
 use blocks::numbers::read32;
 use blocks::sizes::BLOCK;
 use blocks::sizes::HEADER;
@@ -29,8 +29,27 @@ const FEWEST: usize = 2 * BLOCK;
 
 const MOST: usize = 128 * BLOCK;
 
+// Whether a file has a length that files have, and a good block 0.
+pub fn opens(file: &[u8]) -> bool
+    ensures { λ r. ⌜ Opened (now (file .entry)) r ⌝ }
+{
+    let bytes = file.len();
+    if bytes % BLOCK != 0 {
+        return false;
+    }
+    if bytes < FEWEST {
+        return false;
+    }
+    if MOST < bytes {
+        return false;
+    }
+    let total = bytes / BLOCK;
+    let first = &file[..BLOCK];
+    jobs_good(first, total as u16)
+}
+
 // Whether block b, of rows, is good after the block before. For block 1 the last word before is read and not asked.
-fn rows_good(file: &[u8], b: usize, total: usize, jobs: [[u16; 4]; 8], n: u8) -> bool
+pub fn rows_good(file: &[u8], b: usize, total: usize, jobs: [[u16; 4]; 8], n: u8) -> bool
     requires { ⌜ (1 ≤ b) × ((b < total) × ((total ≤ most-blocks) × (length (now file) ≡ block-bytes * total))) ⌝ }
     requires { ⌜ n ≤ most-jobs ⌝ }
     ensures { λ r. ⌜ Is r (Rows-block (sheet-of jobs n) total b (before (now (file .entry)) b) (block-at (now (file .entry)) b)) ⌝ }
@@ -46,21 +65,11 @@ fn rows_good(file: &[u8], b: usize, total: usize, jobs: [[u16; 4]; 8], n: u8) ->
 pub fn judge(file: &[u8]) -> Verdict
     ensures { λ r. ⌜ Judged (now (file .entry)) r ⌝ }
 {
-    let bytes = file.len();
-    if bytes % BLOCK != 0 {
+    if !opens(file) {
         return Verdict::Bad(0);
     }
-    if bytes < FEWEST {
-        return Verdict::Bad(0);
-    }
-    if MOST < bytes {
-        return Verdict::Bad(0);
-    }
-    let total = bytes / BLOCK;
+    let total = file.len() / BLOCK;
     let first = &file[..BLOCK];
-    if !jobs_good(first, total as u16) {
-        return Verdict::Bad(0);
-    }
     let n = first[3];
     let jobs = jobs_of(first);
     let mut passed: usize = 0;

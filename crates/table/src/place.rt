@@ -7,8 +7,8 @@ ghost use Rattle.sheet.specs.Model.{Sheet};
 ghost use Rattle.sheet.specs.Table.{Entry};
 ghost use Rattle.blocks.specs.Sizes.{block-slots, slot-bytes, most-rows};
 ghost use Rattle.blocks.specs.Bytes.{u32-at};
-ghost use Rattle.table.specs.Reading.{total, block-at, Sized, Says, good};
-ghost use Rattle.table.specs.Places.{place, Ascends, Good-file, Finds};
+ghost use Rattle.table.specs.Reading.{total, block-at, Sized, Reads, Says, good};
+ghost use Rattle.table.specs.Places.{place, Ascends, Good-file, Read-rows, Finds};
 use blocks::numbers::read32;
 use blocks::sizes::BLOCK;
 use blocks::sizes::HEADER;
@@ -44,13 +44,21 @@ pub fn word_at(file: &[u8], i: usize) -> u32
     read32(file, place_of(i))
 }
 
-// The number of rows: all slots of the blocks between block 0 and the last, and those used in the last.
+// The number of rows in the blocks up to b: all slots of those before it, and the slots used in it.
+pub fn rows_to(file: &[u8], b: usize) -> usize
+    requires { ⌜ Sized (now file) × ((1 ≤ b) × (b < total (now file))) ⌝ }
+    ensures { λ r. ⌜ r ≡ block-slots * (b - 1) + getD (block-at (now (file .entry)) b) 3 0 ⌝ }
+{
+    SLOTS * (b - 1) + size(file[BLOCK * b + 3])
+}
+
+// The number of rows of a file.
 pub fn count_rows(file: &[u8]) -> usize
     requires { ⌜ Sized (now file) ⌝ }
     ensures { λ r. ⌜ r ≡ block-slots * (total (now (file .entry)) - 2) + getD (block-at (now (file .entry)) (total (now (file .entry)) - 1)) 3 0 ⌝ }
 {
     let total = file.len() / BLOCK;
-    SLOTS * (total - 2) + size(file[BLOCK * (total - 1) + 3])
+    rows_to(file, total - 1)
 }
 
 // The first of n ascending rows whose word is not below the asked one, or n: all before `lo` are below it, all from `hi` on are not.
@@ -71,12 +79,11 @@ fn lower(file: &[u8], n: usize, word: u32) -> usize
     lo
 }
 
-// The row of a good file that has a word: if any has, it is the first that is not below.
-pub fn find(file: &[u8], word: u32) -> Found
-    requires { ⌜ Good-file (now file) ⌝ }
-    ensures { λ r. ⌜ ((σ : Sheet) (rows : List Entry) → Says (now (file .entry)) (good σ rows) → Finds rows word r) ⌝ }
+// The row that has a word, of the n rows read so far: if any has, it is the first that is not below.
+pub fn find_among(file: &[u8], n: usize, word: u32) -> Found
+    requires { ⌜ Read-rows (now file) n ⌝ }
+    ensures { λ r. ⌜ ((k : ℕ) (σ : Sheet) (rows : List Entry) → Reads (now (file .entry)) k σ rows → length rows ≡ n → Finds rows word r) ⌝ }
 {
-    let n = count_rows(file);
     let p = lower(file, n, word);
     if p == n {
         return Found::Nowhere;
@@ -85,4 +92,12 @@ pub fn find(file: &[u8], word: u32) -> Found
         return Found::Nowhere;
     }
     Found::At(p)
+}
+
+// The row of a good file that has a word.
+pub fn find(file: &[u8], word: u32) -> Found
+    requires { ⌜ Good-file (now file) ⌝ }
+    ensures { λ r. ⌜ ((σ : Sheet) (rows : List Entry) → Says (now (file .entry)) (good σ rows) → Finds rows word r) ⌝ }
+{
+    find_among(file, count_rows(file), word)
 }

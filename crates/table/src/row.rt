@@ -1,16 +1,21 @@
 // The row of a word.
 ghost use mathlib.Core.Path.{_≡_};
-ghost use Prim.Native.Nat.{_≤_, _<_, _+_};
+ghost use mathlib.Core.List.{List};
+ghost use Prim.Native.Nat.{ℕ, _≤_, _<_, _+_};
 ghost use lib.ListN.{length};
+ghost use Rattle.sheet.specs.Model.{Sheet};
+ghost use Rattle.sheet.specs.Table.{Entry};
 ghost use Rattle.blocks.specs.Sizes.{slot-bytes, most-rows};
 ghost use Rattle.blocks.specs.Fields.{row-from};
-ghost use Rattle.table.specs.Replies.{Answers, told, row-reply};
+ghost use Rattle.table.specs.Reading.{Reads};
+ghost use Rattle.table.specs.Replies.{Answers, told, lookup, row-reply};
 ghost use Rattle.table.specs.OneReading.{reading};
-ghost use Rattle.table.specs.Places.{place, Good-file};
+ghost use Rattle.table.specs.Places.{place, Read-rows, Good-file};
 use crate::judge::Verdict;
 use crate::judge::judge;
 use crate::place::Found;
-use crate::place::find;
+use crate::place::count_rows;
+use crate::place::find_among;
 use crate::place::place_of;
 
 // A row's answer: number and detail, and on 0 the byte of starts and the tick code.
@@ -36,12 +41,12 @@ pub(crate) fn row_at(file: &[u8], i: usize) -> RowReply
     }
 }
 
-// The row with a word, in a good file.
-fn row_in(file: &[u8], word: u32) -> RowReply
-    requires { ⌜ Good-file (now file) ⌝ }
-    ensures { λ r. ⌜ Answers (now (file .entry)) (row-reply word) r ⌝ }
+// The row with a word, of the n rows read so far.
+pub fn row_among(file: &[u8], n: usize, word: u32) -> RowReply
+    requires { ⌜ Read-rows (now file) n ⌝ }
+    ensures { λ r. ⌜ ((k : ℕ) (σ : Sheet) (rows : List Entry) → Reads (now (file .entry)) k σ rows → length rows ≡ n → r ≡ lookup word rows) ⌝ }
 {
-    let Found::At(i) = find(file, word) else {
+    let Found::At(i) = find_among(file, n, word) else {
         return RowReply {
             number: 8,
             detail: 0,
@@ -50,6 +55,14 @@ fn row_in(file: &[u8], word: u32) -> RowReply
         };
     };
     row_at(file, i)
+}
+
+// The row with a word, in a good file.
+fn row_in(file: &[u8], word: u32) -> RowReply
+    requires { ⌜ Good-file (now file) ⌝ }
+    ensures { λ r. ⌜ Answers (now (file .entry)) (row-reply word) r ⌝ }
+{
+    row_among(file, count_rows(file), word)
 }
 
 // Starts and tick code for a word, of any bytes: the file is judged first, and of a good one the row is looked up.

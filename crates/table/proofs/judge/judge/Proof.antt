@@ -7,45 +7,41 @@ use borrow.Author.Needs.{needs}
 use borrow.Author.Tests.{not-true, not-false}
 use Rattle.blocks.specs.Sizes.{block-bytes}
 use Rattle.state.specs.Tell.{told-yes, told-no}
-use Rattle.table.specs.FileRight.{So-far, sheet-is, sized-of, length-bad, first-bad, first-good, next-bad, next-good, all-good}
+use Rattle.table.specs.FileRight.{So-far, sheet-is, opened-yes, opened-no, first-good, next-bad, next-good, all-good}
 use Rattle.table.proofs.judge.judge.Statement.{statement}
 use Rattle.table.proofs.judge.judge.Tie as tie
 
 abbrev Inv-loop : tie.InvT-loop
-Inv-loop file bytes total n jobs passed₀ passed = (passed + 1 ≤ total) × So-far file (passed + 1)
+Inv-loop file total n jobs passed₀ passed = (passed + 1 ≤ total) × So-far file (passed + 1)
 
 abbrev μ-loop : tie.MeasureT-loop
-μ-loop file bytes total n jobs passed₀ passed = total - passed
+μ-loop file total n jobs passed₀ passed = total - passed
+
+opens-requires : tie.Need-opens-requires Inv-loop μ-loop
+opens-requires c κs = search needs
 
 returns : tie.Need-returns Inv-loop μ-loop
-returns c = length-bad _ (λ s. omega (arith, s .whole))
-
-returns-2 : tie.Need-returns-2 Inv-loop μ-loop
-returns-2 c = length-bad _ (λ s. omega (arith, s .whole, s .long))
-
-returns-3 : tie.Need-returns-3 Inv-loop μ-loop
-returns-3 c = length-bad _ (λ s. omega (arith, s .whole, s .short))
+returns c = opened-no (c .before .before .before .args .file .now) (c .before .opens .result) (c .before .opens .ensures) (not-true _ (c .if1 .taken))
 
 slice-aggregate-first : tie.Need-slice-aggregate-first Inv-loop μ-loop
-slice-aggregate-first c = omega (arith, length-take block-bytes (c .before .before .before .before .before .args .file .now))
-
-cast-jobs-good : tie.Need-cast-jobs-good Inv-loop μ-loop
-cast-jobs-good c = search needs
-
-jobs-good-requires : tie.Need-jobs-good-requires Inv-loop μ-loop
-jobs-good-requires c κs = omega (arith, length-take block-bytes (c .before .before .before .before .before .args .file .now))
-
-returns-4 : tie.Need-returns-4 Inv-loop μ-loop
-returns-4 c = first-bad (c .before .before .before .before .before .before .before .args .file .now) (sized-of (c .before .before .before .before .before .before .before .args .file .now) (omega arith) (omega arith) (omega arith)) (told-no (c .before .jobs-good .ensures) (not-true _ (c .if4 .taken)))
+slice-aggregate-first c =
+    let o = opened-yes (c .before .before .before .before .args .file .now) (c .before .before .opens .result) (c .before .before .opens .ensures) (not-false _ (c .before .if1 .left)) in
+    omega (arith, length-take block-bytes (c .before .before .before .before .args .file .now), o .0 .whole, o .0 .long)
 
 shared-slice-read-n : tie.Need-shared-slice-read-n Inv-loop μ-loop
-shared-slice-read-n c = omega (arith, length-take block-bytes (c .before .before .before .before .before .before .before .before .args .file .now))
+shared-slice-read-n c =
+    let o = opened-yes (c .before .before .before .before .before .args .file .now) (c .before .before .before .opens .result) (c .before .before .before .opens .ensures) (not-false _ (c .before .before .if1 .left)) in
+    omega (arith, length-take block-bytes (c .before .before .before .before .before .args .file .now), o .0 .whole, o .0 .long)
 
 jobs-of-requires : tie.Need-jobs-of-requires Inv-loop μ-loop
-jobs-of-requires c κs = omega (arith, length-take block-bytes (c .before .before .before .before .before .before .before .before .args .file .now))
+jobs-of-requires c κs =
+    let o = opened-yes (c .before .before .before .before .before .args .file .now) (c .before .before .before .opens .result) (c .before .before .before .opens .ensures) (not-false _ (c .before .before .if1 .left)) in
+    omega (arith, length-take block-bytes (c .before .before .before .before .before .args .file .now), o .0 .whole, o .0 .long)
 
 loop-holds : tie.Need-loop-holds Inv-loop μ-loop
-loop-holds c = (omega arith, first-good (c .before .before .before .before .before .before .before .before .before .args .file .now) (sized-of (c .before .before .before .before .before .before .before .before .before .args .file .now) (omega arith) (omega arith) (omega arith)) (λ i. omega (arith, c .before .before .before .before .before .before .before .before .shared-slice-known .given i)) (told-yes (c .before .before .before .jobs-good .ensures) (not-false _ (c .before .before .if4 .left))))
+loop-holds c =
+    let o = opened-yes (c .before .before .before .before .before .before .args .file .now) (c .before .before .before .before .opens .result) (c .before .before .before .before .opens .ensures) (not-false _ (c .before .before .before .if1 .left)) in
+    (omega (arith, o .0 .long), first-good (c .before .before .before .before .before .before .args .file .now) (o .0) (λ i. omega (arith, c .before .before .before .before .before .shared-slice-known .given i)) (o .1))
 
 add-loop : tie.Need-add-loop Inv-loop μ-loop
 add-loop c = search needs
@@ -54,26 +50,36 @@ add-b : tie.Need-add-b Inv-loop μ-loop
 add-b c = search needs
 
 rows-good-requires : tie.Need-rows-good-requires Inv-loop μ-loop
-rows-good-requires c κs = (omega arith, (told-yes (c .before .before .before .before .before .jobs-good .ensures) (not-false _ (c .before .before .before .before .if4 .left))) .few)
+rows-good-requires c κs =
+    let o = opened-yes (c .before .before .before .before .before .before .before .before .args .file .now) (c .before .before .before .before .before .before .opens .result) (c .before .before .before .before .before .before .opens .ensures) (not-false _ (c .before .before .before .before .before .if1 .left)) in
+    ((omega arith, (omega arith, (o .0 .short, o .0 .whole))), o .1 .few)
 
-cast-t19 : tie.Need-cast-t19 Inv-loop μ-loop
-cast-t19 c = omega arith
+cast-t17 : tie.Need-cast-t17 Inv-loop μ-loop
+cast-t17 c =
+    let o = opened-yes (c .before .before .before .before .before .before .before .before .before .before .args .file .now) (c .before .before .before .before .before .before .before .before .opens .result) (c .before .before .before .before .before .before .before .before .opens .ensures) (not-false _ (c .before .before .before .before .before .before .before .if1 .left)) in
+    omega (arith, o .0 .short)
 
-returns-5 : tie.Need-returns-5 Inv-loop μ-loop
-returns-5 c =
-    let t = told-yes (c .before .before .before .before .before .before .before .jobs-good .ensures) (not-false _ (c .before .before .before .before .before .before .if4 .left)) in
-    next-bad (c .before .before .before .before .before .before .before .before .before .before .before .before .before .args .file .now) (sized-of (c .before .before .before .before .before .before .before .before .before .before .before .before .before .args .file .now) (omega arith) (omega arith) (omega arith)) (c .before .before .before .loop .passed + 1) (c .before .before .before .loop .inv .1) (omega arith) (rw (sheet-is _ _ _ (c .before .before .before .before .jobs-of .ensures) refl (t .few)) at (told-no (c .before .rows-good .ensures) (not-true _ (c .if5 .taken))))
+returns-2 : tie.Need-returns-2 Inv-loop μ-loop
+returns-2 c =
+    let l = c .before .before .before .loop in
+    let o = opened-yes (c .before .before .before .before .before .before .before .before .before .before .args .file .now) (c .before .before .before .before .before .before .before .before .opens .result) (c .before .before .before .before .before .before .before .before .opens .ensures) (not-false _ (c .before .before .before .before .before .before .before .if1 .left)) in
+    next-bad (c .before .before .before .before .before .before .before .before .before .before .args .file .now) (o .0) (l .passed + 1) (l .inv .1) (omega arith) (rw (sheet-is _ _ _ (c .before .before .before .before .jobs-of .ensures) refl (o .1 .few)) at (told-no (c .before .rows-good .ensures) (not-true _ (c .if2 .taken))))
 
 loop-less : tie.Need-loop-less Inv-loop μ-loop
 loop-less c = search needs
 
 loop-again : tie.Need-loop-again Inv-loop μ-loop
 loop-again c =
-    let t = told-yes (c .before .before .before .before .before .before .before .jobs-good .ensures) (not-false _ (c .before .before .before .before .before .before .if4 .left)) in
-    (omega arith, next-good (c .before .before .before .before .before .before .before .before .before .before .before .before .before .args .file .now) (sized-of (c .before .before .before .before .before .before .before .before .before .before .before .before .before .args .file .now) (omega arith) (omega arith) (omega arith)) (c .before .before .before .loop .passed + 1) (c .before .before .before .loop .inv .1) (λ i. omega (arith, c .before .before .before .before .before .before .before .before .before .before .before .before .shared-slice-known .given i)) (omega arith) (rw (sheet-is _ _ _ (c .before .before .before .before .jobs-of .ensures) refl (t .few)) at (told-yes (c .before .rows-good .ensures) (not-false _ (c .if5 .left)))))
+    let l = c .before .before .before .loop in
+    let o = opened-yes (c .before .before .before .before .before .before .before .before .before .before .args .file .now) (c .before .before .before .before .before .before .before .before .opens .result) (c .before .before .before .before .before .before .before .before .opens .ensures) (not-false _ (c .before .before .before .before .before .before .before .if1 .left)) in
+    let t = rw (sheet-is _ _ _ (c .before .before .before .before .jobs-of .ensures) refl (o .1 .few)) at (told-yes (c .before .rows-good .ensures) (not-false _ (c .if2 .left))) in
+    (omega arith, next-good (c .before .before .before .before .before .before .before .before .before .before .args .file .now) (o .0) (l .passed + 1) (l .inv .1) (λ i. omega (arith, c .before .before .before .before .before .before .before .before .before .shared-slice-known .given i)) (omega arith) t)
 
-returns-6 : tie.Need-returns-6 Inv-loop μ-loop
-returns-6 c = all-good (c .before .before .before .before .before .before .before .before .before .before .before .args .file .now) (sized-of (c .before .before .before .before .before .before .before .before .before .before .before .args .file .now) (omega arith) (omega arith) (omega arith)) (c .before .loop .passed + 1) (c .before .loop .inv .1) (omega arith) (omega arith) _ refl
+returns-3 : tie.Need-returns-3 Inv-loop μ-loop
+returns-3 c =
+    let l = c .before .loop in
+    let o = opened-yes (c .before .before .before .before .before .before .before .before .args .file .now) (c .before .before .before .before .before .before .opens .result) (c .before .before .before .before .before .before .opens .ensures) (not-false _ (c .before .before .before .before .before .if1 .left)) in
+    all-good (c .before .before .before .before .before .before .before .before .args .file .now) (o .0) (l .passed + 1) (l .inv .1) (omega arith) (omega arith) _ refl
 
 pub judge-spec : {M : Type 1} → statement M
 judge-spec =
@@ -81,21 +87,17 @@ judge-spec =
     (tie.spec
     Inv-loop
     μ-loop
+    opens-requires
     returns
-    returns-2
-    returns-3
     slice-aggregate-first
-    cast-jobs-good
-    jobs-good-requires
-    returns-4
     shared-slice-read-n
     jobs-of-requires
     loop-holds
     add-loop
     add-b
     rows-good-requires
-    cast-t19
-    returns-5
+    cast-t17
+    returns-2
     loop-less
     loop-again
-    returns-6)
+    returns-3)

@@ -1,36 +1,23 @@
--- The word stands at one place, or at none. Assumes nothing.
-use mathlib.Core.Path.{subst}
-use native.Mathlib.Omega.{arith}
-use borrow.Author.Needs.{needs}
-use Rattle.table.specs.Places.{Finds}
-use Rattle.table.specs.PlaceLaws.{rows-few, places-end}
-use Rattle.table.specs.RowLaws.{row-none, row-found}
+-- The rows of a good file are the rows read. Assumes nothing.
+use Prim.Native.Nat.{_-_}
+use mathlib.Core.Path.{sym, _∙_}
+use Rattle.table.specs.Reading.{total, good}
+use Rattle.table.specs.PlaceLaws.{rows-number}
 use Rattle.table.proofs.row.row_in.Statement.{statement}
 use Rattle.table.proofs.row.row_in.Tie as tie
 
-find-requires : tie.Need-find-requires
-find-requires c κs = c .before .pre
+count-rows-requires : tie.Need-count-rows-requires
+count-rows-requires c κs = c .before .pre .2 .0
 
-enum-known-i : tie.Need-enum-known-i
-enum-known-i c = search needs
-
-enum-told : tie.Need-enum-told
-enum-told c = search needs
+row-among-requires : tie.Need-row-among-requires
+row-among-requires c κs =
+    let p = c .before .before .pre in
+    (total (c .before .before .args .file .now) - 1, p .0, p .1, p .2 .0, p .2 .1, rows-number (p .2) ∙ sym (c .count-rows .ensures))
 
 returns : tie.Need-returns
-returns c = row-none (c .before .before .before .before .pre .2) (c .before .before .before .before .args .word) (subst (Finds (c .before .before .before .before .pre .1) (c .before .before .before .before .args .word)) (c .enum-told .given .1) (c .before .before .find .ensures (c .before .before .before .before .pre .0) (c .before .before .before .before .pre .1) (c .before .before .before .before .pre .2)))
-
-row-at-requires : tie.Need-row-at-requires
-row-at-requires c κs =
-    let s = c .before .before .before .before .before .pre .2 in
-    let f = subst (Finds (c .before .before .before .before .before .pre .1) (c .before .before .before .before .before .args .word)) (c .before .i .given .1) (c .before .before .before .find .ensures (c .before .before .before .before .before .pre .0) (c .before .before .before .before .before .pre .1) (c .before .before .before .before .before .pre .2)) in
-    (omega (arith, f .0, rows-few s), places-end s _ (f .0))
-
-returns-2 : tie.Need-returns-2
-returns-2 c =
-    let f = subst (Finds (c .before .before .before .before .before .before .pre .1) (c .before .before .before .before .before .before .args .word)) (c .before .before .i .given .1) (c .before .before .before .before .find .ensures (c .before .before .before .before .before .before .pre .0) (c .before .before .before .before .before .before .pre .1) (c .before .before .before .before .before .before .pre .2)) in
-    rw (c .row-at .ensures) (row-found (c .before .before .before .before .before .before .pre .2) (c .before .before .before .before .before .before .args .word) _ f)
+returns c =
+    let p = c .before .before .before .pre in
+    (good (p .0) (p .1), p .2, c .row-among .ensures (total (c .before .before .before .args .file .now) - 1) (p .0) (p .1) (p .2 .1) (rows-number (p .2) ∙ sym (c .before .count-rows .ensures)))
 
 pub row-in-spec : {M : Type 1} → statement M
-row-in-spec =
-    tie.close (tie.spec find-requires enum-known-i enum-told returns row-at-requires returns-2)
+row-in-spec = tie.close (tie.spec count-rows-requires row-among-requires returns)
