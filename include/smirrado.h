@@ -28,7 +28,7 @@
  * out and desk; they may share a sheet or a file that nobody changes.
  *
  * A call takes at most so many bytes of stack, counted from the caller's stack pointer down, the return address among them:
- * few enough for an interrupt's stack, but for make, which is to be called where there is room.
+ * few enough for an interrupt's stack, but for make, which keeps its hints and looks there and is to be called where there is room.
  * tests/c/stack.c measures this on a painted stack, over good and bad sheets, files and events, and the tests fail where a
  * call takes more. Where memcpy and memset are bound lazily, the first call of them runs the dynamic linker on that stack
  * too: that is not counted here. */
@@ -38,12 +38,12 @@
 #include <stddef.h>
 #include <stdint.h>
 
-#define SMIRRADO_MAKE_STACK 262144
-#define SMIRRADO_ROW_STACK 512
-#define SMIRRADO_ROW_QUICK_STACK 512
-#define SMIRRADO_LISTING_STACK 512
-#define SMIRRADO_LEEWAY_STACK 512
-#define SMIRRADO_STEP_STACK 512
+#define SMIRRADO_MAKE_STACK 262144   /* measured: 194,729 */
+#define SMIRRADO_ROW_STACK 512       /* 421 */
+#define SMIRRADO_ROW_QUICK_STACK 512 /* 389 */
+#define SMIRRADO_LISTING_STACK 512   /* 373 */
+#define SMIRRADO_LEEWAY_STACK 512    /* 373 */
+#define SMIRRADO_STEP_STACK 768      /* 581 */
 
 #define SMIRRADO_JOBS 8           /* the most jobs of a sheet */
 #define SMIRRADO_WORK_WORDS 15748 /* the words that make works in: 62,992 bytes */
