@@ -103,6 +103,8 @@ static int reads(const uint8_t *file, size_t length, uint32_t stride)
         listing = smirrado_listing(file, length, at);
         struct smirrado_row_reply row = smirrado_row(file, length, listing.word);
         good &= row.number == 0 && row.starts == listing.starts && row.tick == listing.tick;
+        struct smirrado_row_reply quick = smirrado_row_quick(file, length, listing.word);
+        good &= quick.number == 0 && quick.starts == row.starts && quick.tick == row.tick;
         for (uint32_t job = 0; job <= 9; job++) {
             number = smirrado_leeway(file, length, listing.word, job).number;
             good &= job >= 1 && job <= listing.jobs ? number == 0 || number == 12 : number == 9;
@@ -116,15 +118,16 @@ static int reads(const uint8_t *file, size_t length, uint32_t stride)
     return good && taken >= 1;
 }
 
-/* Each of the four answers with this refusal. */
+/* Each call answers with this refusal; the quick row is asked for the greatest word, so that it reads every block. */
 static int refuses(const uint8_t *file, size_t length, uint32_t number, uint32_t detail)
 {
     struct smirrado_row_reply row = smirrado_row(file, length, 0);
+    struct smirrado_row_reply quick = smirrado_row_quick(file, length, number == 0 ? 0 : UINT32_MAX);
     struct smirrado_listing_reply listing = smirrado_listing(file, length, 1);
     struct smirrado_leeway_reply leeway = smirrado_leeway(file, length, 0, 1);
     uint32_t stepped;
     int kept = steps(file, length, 0, 1, &stepped);
-    return kept && row.number == number && row.detail == detail && listing.number == number && listing.detail == detail &&
+    return kept && row.number == number && row.detail == detail && quick.number == number && quick.detail == detail && listing.number == number && listing.detail == detail &&
            leeway.number == number && leeway.detail == detail && stepped == number;
 }
 

@@ -11,8 +11,8 @@
 /* The stack of a call is this much longer than what the header says, so that a call that takes more is seen to. */
 enum { SPARE = 1 << 14 };
 
-static uint8_t stack[SMIRRADO_MAKE_STACK + SPARE]; /* make and engine take most */
-_Static_assert(SMIRRADO_ENGINE_STACK <= SMIRRADO_MAKE_STACK, "engine's stack");
+static uint8_t stack[SMIRRADO_ENGINE_STACK + SPARE]; /* engine takes most */
+_Static_assert(SMIRRADO_MAKE_STACK <= SMIRRADO_ENGINE_STACK, "make's stack");
 static uint8_t *before; /* the stack pointer just before the call */
 
 /* What the calls are lent. */
@@ -28,6 +28,7 @@ static uint8_t event;
 
 static struct smirrado_make_reply made;
 static struct smirrado_row_reply row;
+static struct smirrado_row_reply row_quick;
 static struct smirrado_listing_reply listing;
 static struct smirrado_leeway_reply leeway;
 static struct smirrado_step_reply stepped;
@@ -38,6 +39,7 @@ static struct smirrado_engine_reply judged;
 
 static void call_make(void) { HERE; made = smirrado_make(sheet->numbers, sheet->count, work, words, out, bytes); }
 static void call_row(void) { HERE; row = smirrado_row(file, length, asked_word); }
+static void call_row_quick(void) { HERE; row_quick = smirrado_row_quick(file, length, asked_word); }
 static void call_listing(void) { HERE; listing = smirrado_listing(file, length, asked_number); }
 static void call_leeway(void) { HERE; leeway = smirrado_leeway(file, length, asked_word, asked_number); }
 static void call_step(void) { HERE; stepped = smirrado_step(file, length, &desk, event); }
@@ -51,6 +53,7 @@ struct measured {
 
 static struct measured make_call = {"smirrado_make", call_make, SMIRRADO_MAKE_STACK, 0, 0};
 static struct measured row_call = {"smirrado_row", call_row, SMIRRADO_ROW_STACK, 0, 0};
+static struct measured row_quick_call = {"smirrado_row_quick", call_row_quick, SMIRRADO_ROW_QUICK_STACK, 0, 0};
 static struct measured listing_call = {"smirrado_listing", call_listing, SMIRRADO_LISTING_STACK, 0, 0};
 static struct measured leeway_call = {"smirrado_leeway", call_leeway, SMIRRADO_LEEWAY_STACK, 0, 0};
 static struct measured step_call = {"smirrado_step", call_step, SMIRRADO_STEP_STACK, 0, 0};
@@ -98,6 +101,7 @@ static void measure_reading(size_t stride)
         measure(&listing_call);
         asked_word = listing.word;
         measure(&row_call);
+        measure(&row_quick_call);
         for (asked_number = 0; asked_number <= 9; asked_number++)
             measure(&leeway_call);
         struct smirrado_desk there = {.now = (uint8_t)(asked_word >> 24), .elapsed = (uint8_t)(asked_word >> 16)};
@@ -110,6 +114,7 @@ static void measure_reading(size_t stride)
         }
         asked_word ^= 1u << 31;
         measure(&row_call);
+        measure(&row_quick_call);
     }
 }
 
@@ -123,7 +128,7 @@ static int told(const struct measured *m)
 
 int main(void)
 {
-    const struct measured *all[] = {&make_call, &row_call, &listing_call, &leeway_call, &step_call, &engine_call};
+    const struct measured *all[] = {&make_call, &row_call, &row_quick_call, &listing_call, &leeway_call, &step_call, &engine_call};
     enum { CALLS = sizeof all / sizeof *all };
     int passed = 0;
     sheet = &longest;

@@ -5,7 +5,7 @@ use crate::found::{self, Found};
 use crate::guarded::{Lent, Placement};
 #[cfg(linked)]
 use crate::library;
-use crate::second::calls::{self, table_of, WORK_WORDS};
+use crate::second::calls::{self, file_bytes, table_of, WORK_WORDS};
 use crate::second::file::write;
 use crate::second::sheet::Sheet;
 use crate::second::table::{Live, MOST_LIVE};
@@ -26,6 +26,9 @@ pub fn run() {
     }
     for sheet in found::all().iter().filter(|sheet| sheet.rows > 7_000) {
         row(sheet);
+    }
+    for sheet in found::all().iter().filter(|sheet| file_bytes(sheet.rows) == 65_536) {
+        row_quick(sheet);
     }
 }
 
@@ -104,6 +107,24 @@ fn row(sheet: &Found) {
     print_times(&format!("row, {}", sheet.what), plain, &others);
 }
 
+/// The quick row beside the full one, for words early, in the middle and late in a file of 128 blocks.
+fn row_quick(sheet: &Found) {
+    let Ok(table) = table_of(&sheet.numbers()) else {
+        return;
+    };
+    let file = write(&table.sheet, &table.rows);
+    let last = table.rows.len() - 1;
+    for (what, place) in [("first", 0), ("early", last / 10), ("middle", last / 2), ("late", last)]
+    {
+        let word = table.rows[place].word;
+        let full = product_row(&file, word);
+        for ((_, full), (name, quick)) in full.into_iter().zip(product_row_quick(&file, word)) {
+            let share = quick / full;
+            println!("quick row, {}, {what} word: {name} {quick:.1}, full row {full:.1} ({share:.3} of it)", sheet.what);
+        }
+    }
+}
+
 #[cfg(linked)]
 fn product_make(numbers: &[u16]) -> Vec<(&'static str, f64)> {
     let sheet = Lent::shared(numbers, Placement::EndsAtGuard);
@@ -120,6 +141,13 @@ fn product_row(file: &[u8], word: u32) -> Vec<(&'static str, f64)> {
     vec![("product", time)]
 }
 
+#[cfg(linked)]
+fn product_row_quick(file: &[u8], word: u32) -> Vec<(&'static str, f64)> {
+    let lent = Lent::shared(file, Placement::EndsAtGuard);
+    let time = fastest(|| usize::from(library::row_quick(&lent, word).tick));
+    vec![("product", time)]
+}
+
 #[cfg(not(linked))]
 fn product_make(_numbers: &[u16]) -> Vec<(&'static str, f64)> {
     Vec::new()
@@ -127,5 +155,10 @@ fn product_make(_numbers: &[u16]) -> Vec<(&'static str, f64)> {
 
 #[cfg(not(linked))]
 fn product_row(_file: &[u8], _word: u32) -> Vec<(&'static str, f64)> {
+    Vec::new()
+}
+
+#[cfg(not(linked))]
+fn product_row_quick(_file: &[u8], _word: u32) -> Vec<(&'static str, f64)> {
     Vec::new()
 }

@@ -15,6 +15,7 @@ extern "C" {
         bytes: usize,
     ) -> MakeReply;
     fn smirrado_row(file: *const u8, bytes: usize, word: u32) -> RowReply;
+    fn smirrado_row_quick(file: *const u8, bytes: usize, word: u32) -> RowReply;
     fn smirrado_listing(file: *const u8, bytes: usize, row_number: u32) -> ListingReply;
     fn smirrado_leeway(file: *const u8, bytes: usize, word: u32, job: u32) -> LeewayReply;
     fn smirrado_step(file: *const u8, bytes: usize, desk: *mut Desk, event: u8) -> StepReply;
@@ -33,6 +34,10 @@ pub fn make(sheet: &Lent<u16>, work: &Lent<u32>, out: &Lent<u8>) -> MakeReply {
 
 pub fn row(file: &Lent<u8>, word: u32) -> RowReply {
     unsafe { smirrado_row(file.pointer(), file.count(), word) }
+}
+
+pub fn row_quick(file: &Lent<u8>, word: u32) -> RowReply {
+    unsafe { smirrado_row_quick(file.pointer(), file.count(), word) }
 }
 
 pub fn listing(file: &Lent<u8>, row_number: u32) -> ListingReply {

@@ -1,7 +1,7 @@
 //! Each call's answers and refusals in their order, worked by hand on S1 and S2.
 
 use crate::replies::{Desk, ListingReply};
-use crate::second::calls::{engine, leeway, listing, row, step, table_of};
+use crate::second::calls::{engine, leeway, listing, row, row_quick, step, table_of};
 use crate::second::file::write;
 use crate::second::sheet::{Job, Sheet};
 use crate::second::table::{Row, TICK_HELD, TICK_NONE, TICK_OPEN};
@@ -10,6 +10,7 @@ use crate::worked::{S1, S2};
 
 pub fn run() {
     test("row: S1's rows, others 8", rows_of_s1());
+    test("quick row: a bad block is told where it is read", quick_rows());
     test("listing: S1's rows, numbers 0 and 6 are 8", listings_of_s1());
     test("leeway: S2, and 7, 9, 8, 12 in order", leeways_of_s2());
     test("leeway: 254 and −255", leeway_ends());
@@ -58,6 +59,33 @@ fn rows_of_s1() -> Outcome {
     }
     let bad = row(&bad_file()?, 0);
     same("row of a bad file", (bad.number, bad.detail), (7, 1))
+}
+
+/// A table of three state blocks, each bad in turn: asked for the last word of block 1, only blocks
+/// 0 and 1 are read; asked for one more, block 2 too; asked for the greatest word there is, all.
+fn quick_rows() -> Outcome {
+    let file = file_of(&[0, 1, 5, 20, 0, 1, 5, 20])?;
+    let word_at =
+        |at: usize| u32::from_le_bytes([file[at], file[at + 1], file[at + 2], file[at + 3]]);
+    let last_of_1 = word_at(512 + 8 + 8 * 61);
+    let one_more = last_of_1 + 1;
+    let told = |bad: usize, word: u32| {
+        let mut copy = file.clone();
+        copy[512 * bad + 20] ^= 1;
+        let reply = row_quick(&copy, word);
+        (reply.number, reply.detail)
+    };
+    same("block 0 bad", told(0, 0), (7, 0))?;
+    for (bad, words) in [(1, [(7, 1), (7, 1), (7, 1)]), (2, [(0, 0), (7, 2), (7, 2)])] {
+        for (word, wanted) in [last_of_1, one_more, u32::MAX].into_iter().zip(words) {
+            same(&format!("word {} with block {} bad", word, bad), told(bad, word), wanted)?;
+        }
+    }
+    let last = file.len() / 512 - 1;
+    same("the last block bad, start", told(last, 0), (0, 0))?;
+    same("the last block bad, no row", told(last, 16), (8, 0))?;
+    same("the last block bad, all read", told(last, u32::MAX), (7, last as u32))?;
+    same("a length of no file", row_quick(&file[1..], 0), row(&file[1..], 0))
 }
 
 fn listings_of_s1() -> Outcome {

@@ -72,12 +72,13 @@ fn null_make() {
     group.close();
 }
 
-/// Row, listing, leeway and step with no file at all.
+/// Both rows, listing, leeway and step with no file at all.
 fn null_file(random: &mut Random) {
     let mut group = Group::new("row, listing, leeway, step: null with length 0");
     let asked = Asked::null("no file");
     for number in [0, 1, 2, 256, u32::MAX] {
         asked.ask(&mut group, Question::Row { word: number });
+        asked.ask(&mut group, Question::RowQuick { word: number });
         asked.ask(&mut group, Question::Listing { row_number: number });
         asked.ask(&mut group, Question::Leeway { word: number, job: number });
     }
@@ -108,6 +109,7 @@ fn every_address_of_a_file(random: &mut Random) {
         let asked = Asked::new("S2", &file, Placement::Farther(times));
         for word in [0, 1, 16_777_221, 50_331_661, 117_702_670, random.next() as u32] {
             asked.ask(&mut group, Question::Row { word });
+            asked.ask(&mut group, Question::RowQuick { word });
             asked.ask(&mut group, Question::Leeway { word, job: 1 });
         }
         for row_number in 0..=21 {

@@ -1,4 +1,4 @@
-//! Questions to a file: row, listing, leeway and step, put to the product and the second program.
+//! Questions to a file: row, quick row, listing, leeway and step, put to the product and the second program.
 
 use super::Group;
 use crate::guarded::{described, Lent, Placement};
@@ -6,13 +6,14 @@ use crate::library;
 use crate::random::Random;
 use crate::replies::Desk;
 use crate::second::calls;
-use crate::second::file::BLOCK_BYTES;
+use crate::second::file::{BLOCK_BYTES, FIRST_SLOT, SLOTS, SLOT_BYTES};
 use crate::second::form::Table;
 use crate::second::state::{State, DONE};
 
 #[derive(Clone, Copy, Debug)]
 pub enum Question {
     Row { word: u32 },
+    RowQuick { word: u32 },
     Listing { row_number: u32 },
     Leeway { word: u32, job: u32 },
     Step { desk: Desk, event: u8 },
@@ -54,6 +55,10 @@ impl<'a> Asked<'a> {
                 let found = described(&describe, || library::row(&self.lent, word));
                 group.same(&describe, "the reply", found, calls::row(self.bytes, word));
             }
+            Question::RowQuick { word } => {
+                let found = described(&describe, || library::row_quick(&self.lent, word));
+                group.same(&describe, "the reply", found, calls::row_quick(self.bytes, word));
+            }
             Question::Listing { row_number } => {
                 let found = described(&describe, || library::listing(&self.lent, row_number));
                 group.same(&describe, "the reply", found, calls::listing(self.bytes, row_number));
@@ -86,11 +91,17 @@ impl<'a> Asked<'a> {
     }
 }
 
-/// Questions that any file may be asked; a bad one must refuse each with its lowest bad block.
-pub fn few(random: &mut Random) -> Vec<Question> {
+/// Questions that any file may be asked; a bad one must refuse each with its lowest bad block, but
+/// for the quick row, which may not get that far.
+pub fn few(file: &[u8], random: &mut Random) -> Vec<Question> {
     vec![
         Question::Row { word: 0 },
         Question::Row { word: random.next() as u32 },
+        Question::RowQuick { word: 0 },
+        Question::RowQuick { word: u32::MAX },
+        Question::RowQuick { word: word_in(file, random) },
+        Question::RowQuick { word: word_in(file, random) },
+        Question::RowQuick { word: word_in(file, random).wrapping_add(1) },
         Question::Listing { row_number: 1 },
         Question::Listing { row_number: 0 },
         Question::Leeway { word: 0, job: 1 },
@@ -98,6 +109,17 @@ pub fn few(random: &mut Random) -> Vec<Question> {
         Question::Step { desk: Desk::default(), event: 1 },
         Question::Step { desk: any_desk(random), event: 255 },
     ]
+}
+
+/// The word in a slot of some state block, the last slot half the time; any word where there is no slot.
+fn word_in(file: &[u8], random: &mut Random) -> u32 {
+    if file.len() < 2 * BLOCK_BYTES {
+        return random.next() as u32;
+    }
+    let block = &file[BLOCK_BYTES * random.from_to(1, file.len() / BLOCK_BYTES - 1)..];
+    let place = if random.once_in(2) { SLOTS - 1 } else { random.below(SLOTS) };
+    let at = FIRST_SLOT + SLOT_BYTES * place;
+    u32::from_le_bytes([block[at], block[at + 1], block[at + 2], block[at + 3]])
 }
 
 /// Every row and its neighbours, every row number and job, every event byte at every row.
@@ -111,6 +133,7 @@ pub fn every(table: &Table) -> Vec<Question> {
         let word = row.word;
         for near in [word, word.wrapping_sub(1), word.wrapping_add(1), word ^ (1 << 24)] {
             list.push(Question::Row { word: near });
+            list.push(Question::RowQuick { word: near });
         }
         for job in (0..=9).chain([255, 256, 257, 258, 65_537, (1 << 31) + 1, u32::MAX]) {
             list.push(Question::Leeway { word, job });
@@ -129,8 +152,9 @@ pub fn some(table: &Table, count: usize, random: &mut Random) -> Vec<Question> {
     for _ in 0..count {
         let word = near_a_row(table, random);
         let state = State::of_word(word);
-        list.push(match random.below(6) {
+        list.push(match random.below(7) {
             0 => Question::Row { word },
+            6 => Question::RowQuick { word },
             1 => Question::Listing { row_number: random.below(table.rows.len() + 2) as u32 },
             2 => Question::Leeway { word, job: random.below(table.sheet.count() + 2) as u32 },
             3 => Question::Step { desk: any_desk(random), event: random.byte() },

@@ -1,4 +1,4 @@
-//! Row, listing, leeway and step against the second program, on files made, foreign and damaged.
+//! Row, quick row, listing, leeway and step against the second program, on files made, foreign and damaged.
 
 use super::questions::{every, few, some, Asked, Question};
 use super::Group;
@@ -9,7 +9,7 @@ use crate::found::{self, BLOCK_EDGES};
 use crate::guarded::Placement;
 use crate::random::Random;
 use crate::second::calls::table_of;
-use crate::second::file::{write, MOST_BLOCKS, SLOTS};
+use crate::second::file::{write, BLOCK_BYTES, MOST_BLOCKS, SLOTS};
 use crate::second::form::{read, Table};
 use crate::second::sheet::Sheet;
 use crate::second::table::Row;
@@ -21,6 +21,7 @@ pub fn run(seed: u64, cases: usize) {
     worked_tables();
     clause_rows(&mut random);
     damaged_files(&mut random);
+    quick_ends(&mut random);
     mixed_files(&mut random);
     random_damage(cases, &mut random);
     random_rows(cases, &mut random);
@@ -64,17 +65,18 @@ fn clause_rows(random: &mut Random) {
         let file = case.alone();
         let questions = match read(&file) {
             Ok(table) => every(&table),
-            Err(_) => few(random),
+            Err(_) => few(&file, random),
         };
         ask(&mut group, case.clause, &file, questions, turn);
         let table = foreign::table(&case.sheet, 4 * SLOTS, random);
-        ask(&mut group, case.clause, &case.among(&table).0, few(random), turn);
+        let among = case.among(&table).0;
+        ask(&mut group, case.clause, &among, few(&among, random), turn);
     }
     group.close();
 }
 
 fn ask_damaged(group: &mut Group, damaged: &Damaged, turn: usize, random: &mut Random) {
-    ask(group, &damaged.rule, &damaged.file, few(random), turn);
+    ask(group, &damaged.rule, &damaged.file, few(&damaged.file, random), turn);
 }
 
 fn damaged_files(random: &mut Random) {
@@ -91,6 +93,29 @@ fn damaged_files(random: &mut Random) {
     for (turn, damaged) in damage::all(&made(&BLOCK_EDGES[6].numbers())).iter().enumerate() {
         let asked = Asked::new(&damaged.rule, &damaged.file, Placement::in_turn(turn));
         asked.ask(&mut group, Question::Row { word: 0 });
+    }
+    group.close();
+}
+
+/// The quick row at the end of each block and beside it, where each block in turn is bad.
+fn quick_ends(random: &mut Random) {
+    let mut group = Group::new("quick row: around the end of each block, each block bad in turn");
+    for rows in [1, SLOTS - 1, SLOTS, SLOTS + 1, 3 * SLOTS, 5 * SLOTS + 7] {
+        let table = foreign::table(&foreign::wide_sheet(), rows, random);
+        let file = file_of(&table);
+        let ends: Vec<u32> =
+            table.rows.chunks(SLOTS).filter_map(|part| part.last()).map(|row| row.word).collect();
+        for bad in 0..=damage::blocks_of(&file) {
+            let mut damaged = file.clone();
+            if let Some(byte) = damaged.get_mut(BLOCK_BYTES * bad + 20) {
+                *byte ^= 1;
+            }
+            let near =
+                ends.iter().flat_map(|&word| [word.wrapping_sub(1), word, word.wrapping_add(1)]);
+            let questions =
+                near.chain([0, u32::MAX]).map(|word| Question::RowQuick { word }).collect();
+            ask(&mut group, "a block bad", &damaged, questions, bad);
+        }
     }
     group.close();
 }

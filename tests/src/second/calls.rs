@@ -1,7 +1,7 @@
-//! The calls: make, row, listing, leeway, step and engine, with their refusals in order.
+//! The calls: make, row, quick row, listing, leeway, step and engine, with their refusals in order.
 
 use super::file::{write, BLOCK_BYTES, SLOTS};
-use super::form::{read, Table};
+use super::form::{read, read_for, Table};
 use super::sheet::{Sheet, NUMBERS_A_JOB};
 use super::state::{Event, State, NOT_ARRIVED, READY};
 use super::table::{Live, Row, MOST_LIVE, TICK_OPEN};
@@ -108,7 +108,16 @@ fn row_in(table: &Table, word: u32) -> Result<Row, Refusal> {
 }
 
 pub fn row(file: &[u8], word: u32) -> RowReply {
-    let found = table_in(file).and_then(|table| row_in(&table, word));
+    told(table_in(file).and_then(|table| row_in(&table, word)))
+}
+
+/// A block that is not read is not judged.
+pub fn row_quick(file: &[u8], word: u32) -> RowReply {
+    let read = read_for(file, word).map_err(|block| (BAD_FILE, block));
+    told(read.and_then(|table| row_in(&table, word)))
+}
+
+fn told(found: Result<Row, Refusal>) -> RowReply {
     match found {
         Ok(row) => RowReply { starts: row.starts, tick: row.tick, ..RowReply::default() },
         Err((number, detail)) => RowReply { number, detail, ..RowReply::default() },

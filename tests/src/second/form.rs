@@ -16,6 +16,17 @@ pub struct Table {
 
 /// The table, or the lowest bad block; 0 also for a length that no file has.
 pub fn read(file: &[u8]) -> Result<Table, u32> {
+    read_until(file, |_| false)
+}
+
+/// The same of block 0 and the state blocks in order, up to the first whose last word is not below
+/// this one; a block after that is not looked at.
+pub fn read_for(file: &[u8], word: u32) -> Result<Table, u32> {
+    read_until(file, |last| last >= word)
+}
+
+/// Stops after a block whose last word is one to stop at.
+fn read_until(file: &[u8], stops: impl Fn(u32) -> bool) -> Result<Table, u32> {
     if file.len() % BLOCK_BYTES != 0 {
         return Err(0);
     }
@@ -24,10 +35,13 @@ pub fn read(file: &[u8]) -> Result<Table, u32> {
         return Err(0);
     }
     let sheet = read_jobs(&file[..BLOCK_BYTES], blocks).ok_or(0u32)?;
-    let mut rows = Vec::new();
+    let mut rows: Vec<Row> = Vec::new();
     for number in 1..blocks {
         let block = &file[number * BLOCK_BYTES..(number + 1) * BLOCK_BYTES];
         read_rows(block, number, blocks, &sheet, &mut rows).ok_or(number as u32)?;
+        if rows.last().map_or(false, |row| stops(row.word)) {
+            break;
+        }
     }
     Ok(Table { sheet, rows })
 }
