@@ -13,6 +13,18 @@ use crate::tally::{same, test, Outcome};
 pub const S1: [u16; 4] = [0, 1, 1, 1];
 pub const S2: [u16; 8] = [0, 2, 4, 7, 1, 1, 2, 4];
 
+/// The sheets worked by hand, good and refused.
+#[cfg(linked)]
+pub const WORKED: [&[u16]; 7] = [
+    &S1,
+    &S2,
+    &[0, 1, 2, 2, 0, 1, 1, 2],
+    &[0, 1, 1, 2, 0, 1, 1, 2],
+    &[0, 255, 255, 255],
+    &[1, 255, 255, 255],
+    &[0, 0, 1, 1],
+];
+
 /// Now, elapsed and the statuses of jobs 1 and 2 of the 20 states that source document 000 lists
 /// as safe for S2 (its example, the set after the last iteration).
 const STATES_OF_000: [(u32, u32, u8, u8); 20] = [

@@ -6,7 +6,7 @@ use crate::library;
 use crate::random::Random;
 use crate::second::calls::{self, BAD_LENGTH, MANY_LIVE, WORK_WORDS};
 use crate::sheets::{self, Kind};
-use crate::worked::{S1, S2};
+use crate::worked::{S2, WORKED};
 
 pub fn run(seed: u64, cases: usize) {
     worked_sheets();
@@ -44,19 +44,12 @@ fn make(sheet: &Lent<u16>) -> (u32, u32) {
 
 /// The sheets worked by hand, and some with too many live states for make.
 fn worked_sheets() {
-    let sheets: [&[u16]; 9] = [
-        &S1,
-        &S2,
-        &[0, 1, 2, 2, 0, 1, 1, 2],
-        &[0, 1, 1, 2, 0, 1, 1, 2],
-        &[0, 255, 255, 255],
-        &[1, 255, 255, 255],
-        &[0, 0, 1, 1],
+    let many_live: [&[u16]; 2] = [
         &[0, 1, 1, 255, 0, 1, 1, 255, 0, 1, 1, 255, 0, 1, 1, 255],
         &[5, 25, 41, 202],
     ];
     let mut group = Group::new("engine: sheets worked by hand");
-    for numbers in sheets {
+    for numbers in WORKED.into_iter().chain(many_live) {
         judge(&mut group, numbers);
     }
     group.close();

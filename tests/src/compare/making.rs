@@ -7,7 +7,7 @@ use crate::library;
 use crate::random::Random;
 use crate::second::calls::{self, WORK_WORDS};
 use crate::sheets::{self, KINDS};
-use crate::worked::{S1, S2};
+use crate::worked::{S2, WORKED};
 
 pub fn run(seed: u64, cases: usize) {
     worked_sheets();
@@ -92,18 +92,9 @@ fn with_room(group: &mut Group, numbers: &[u16]) {
 }
 
 fn worked_sheets() {
-    let sheets: [&[u16]; 8] = [
-        &S1,
-        &S2,
-        &[0, 1, 2, 2, 0, 1, 1, 2],
-        &[0, 1, 1, 2, 0, 1, 1, 2],
-        &[0, 255, 255, 255],
-        &[1, 255, 255, 255],
-        &[0, 0, 1, 1],
-        &[65_535, 1, 1, 1],
-    ];
+    let wrapping: &[u16] = &[65_535, 1, 1, 1];
     let mut group = Group::new("make: sheets worked by hand");
-    for numbers in sheets {
+    for numbers in WORKED.into_iter().chain([wrapping]) {
         let bytes = needed(numbers);
         for words in [WORK_WORDS, WORK_WORDS + 1, WORK_WORDS + 4_000] {
             for length in [0, 1, 511, bytes - 1, bytes, bytes + 1, bytes + 512, 65_536, 70_000] {
