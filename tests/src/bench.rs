@@ -1,25 +1,25 @@
 //! Times of the makers and readers on the largest sheets, and their ratios, measured in one run.
 
 use crate::found::{self, Found};
-#[cfg(linked)]
 use crate::guarded::{Lent, Placement};
-#[cfg(linked)]
 use crate::library;
+use crate::race::{print_race, race, Runner};
+use crate::random::Random;
 use crate::second::calls::{self, file_bytes, table_of, WORK_WORDS};
 use crate::second::file::write;
-use crate::second::sheet::Sheet;
+use crate::second::sheet::{Sheet, MOST_JOBS};
 use crate::second::table::{Live, MOST_LIVE};
+use crate::sheets;
 use crate::tuned;
 use crate::tuned_read;
-use std::time::{Duration, Instant};
-
-/// Each is called until this much time has passed; the fastest call counts.
-const A_WHILE: Duration = Duration::from_millis(150);
 
 pub fn run() {
-    println!("fastest call in microseconds; the product only where it is linked");
+    println!("fastest call in microseconds; calls side by side take turns");
     for sheet in found::all() {
         make(sheet);
+    }
+    for jobs in 1..=MOST_JOBS {
+        large(jobs);
     }
     for due in GROWING_DUES {
         growth(due);
@@ -34,7 +34,6 @@ pub fn run() {
 
 /// Makes the table of the sheet at a place of `found::all()` once, for `phases`. An output that is
 /// too short leaves the writing out.
-#[cfg(linked)]
 pub fn once(place: usize, bytes: usize) -> bool {
     let Some(sheet) = found::all().get(place).copied() else {
         return false;
@@ -47,6 +46,27 @@ pub fn once(place: usize, bytes: usize) -> bool {
     true
 }
 
+/// "On sheets of more than 5,000 live states" is what make's speed is asked of.
+const LARGE: usize = 5_000;
+const LARGE_SHEETS: usize = 10;
+
+/// Random large sheets of so many jobs: the least and the greatest share of the second program's time.
+fn large(jobs: usize) {
+    let mut random = Random::new(jobs as u64);
+    let mut shares = Vec::new();
+    while shares.len() < LARGE_SHEETS {
+        let numbers = sheets::of_jobs(jobs, &mut random);
+        let sheet = Sheet::of_numbers(&numbers).expect("good length");
+        if Live::of_sheet(&sheet, MOST_LIVE).is_some_and(|live| LARGE < live.count()) {
+            let times = race(vec![plain_make(&numbers), product_make(&numbers)]);
+            shares.push(times[1].1 / times[0].1);
+        }
+    }
+    shares.sort_by(f64::total_cmp);
+    let (least, greatest) = (shares[0], shares[LARGE_SHEETS - 1]);
+    println!("make, {LARGE_SHEETS} large sheets, jobs {jobs}: product {least:.2} to {greatest:.2} of second program");
+}
+
 /// Due ticks of the first of three jobs; their sheets have about 1,000, 2,000, 4,000 and 7,874 live states.
 const GROWING_DUES: [u16; 4] = [29, 58, 114, 224];
 
@@ -55,56 +75,40 @@ fn growth(due: u16) {
     let numbers = [2, 1, 1, due, 0, 1, 2, due + 5, 3, 1, 1, due + 1];
     let jobs = Sheet::of_numbers(&numbers).expect("good length");
     let live = Live::of_sheet(&jobs, MOST_LIVE).expect("few enough").count() as f64;
-    for (name, time) in product_make(&numbers) {
-        let each = 1_000.0 * time / (live * live.log2());
-        println!("growth, {live} live states: {name} {time:.1}, {each:.2} ns for each state and doubling");
-    }
-}
-
-/// The calls' answers are added up and looked at, so that no call can be left out.
-pub fn fastest(mut call: impl FnMut() -> usize) -> f64 {
-    let begin = Instant::now();
-    let mut least = f64::MAX;
-    let mut answers = 0;
-    while begin.elapsed() < A_WHILE {
-        let before = Instant::now();
-        answers += call();
-        least = least.min(before.elapsed().as_secs_f64());
-    }
-    assert!(answers < usize::MAX, "an answer");
-    least * 1e6
-}
-
-pub fn print_times(what: &str, plain: f64, others: &[(&str, f64)]) {
-    let mut line = format!("{}: second program {:.1}", what, plain);
-    for (name, time) in others {
-        line += &format!(", {} {:.1} ({:.2} of it)", name, time, time / plain);
-    }
-    println!("{}", line);
+    let (name, time) = race(vec![product_make(&numbers)])[0];
+    let each = 1_000.0 * time / (live * live.log2());
+    println!(
+        "growth, {live} live states: {name} {time:.1}, {each:.2} ns for each state and doubling"
+    );
 }
 
 fn make(sheet: &Found) {
     let numbers = sheet.numbers();
-    let (mut work, mut out) = (vec![0; WORK_WORDS], vec![0; 65_536]);
-    let plain = fastest(|| calls::make(&numbers, &mut work, &mut out).length as usize);
     let jobs = Sheet::of_numbers(&numbers).expect("good length");
-    let tuned = fastest(|| tuned::make(&jobs).map_or(0, |file| file.len()));
-    let mut others = vec![("tuned", tuned)];
-    others.extend(product_make(&numbers));
-    print_times(&format!("make, {}", sheet.what), plain, &others);
+    let tuned = move || tuned::make(&jobs).map_or(0, |file| file.len());
+    let mut runners = vec![plain_make(&numbers), ("tuned", Box::new(tuned))];
+    runners.push(product_make(&numbers));
+    print_race(&format!("make, {}", sheet.what), runners);
+}
+
+fn plain_make(numbers: &[u16]) -> Runner<'_> {
+    let (mut work, mut out) = (vec![0; WORK_WORDS], vec![0; 65_536]);
+    let call = move || calls::make(numbers, &mut work, &mut out).length as usize;
+    ("second program", Box::new(call))
 }
 
 fn row(sheet: &Found) {
-    let table = match table_of(&sheet.numbers()) {
-        Ok(table) => table,
-        Err(_) => return,
+    let Ok(table) = table_of(&sheet.numbers()) else {
+        return;
     };
     let file = write(&table.sheet, &table.rows);
     let word = table.rows[table.rows.len() / 2].word;
-    let plain = fastest(|| usize::from(calls::row(&file, word).tick));
-    let mut others = vec![("tuned", fastest(|| usize::from(tuned_read::row(&file, word).tick)))];
-    others.extend(product_row(&file, word));
-    print_times(&format!("row, {}", sheet.what), plain, &others);
+    let mut runners: Vec<Runner> = vec![
+        ("second program", Box::new(|| usize::from(calls::row(&file, word).tick))),
+        ("tuned", Box::new(|| usize::from(tuned_read::row(&file, word).tick))),
+    ];
+    runners.push(product_row(&file, word));
+    print_race(&format!("row, {}", sheet.what), runners);
 }
 
 /// The quick row beside the full one, for words early, in the middle and late in a file of 128 blocks.
@@ -117,48 +121,30 @@ fn row_quick(sheet: &Found) {
     for (what, place) in [("first", 0), ("early", last / 10), ("middle", last / 2), ("late", last)]
     {
         let word = table.rows[place].word;
-        let full = product_row(&file, word);
-        for ((_, full), (name, quick)) in full.into_iter().zip(product_row_quick(&file, word)) {
-            let share = quick / full;
-            println!("quick row, {}, {what} word: {name} {quick:.1}, full row {full:.1} ({share:.3} of it)", sheet.what);
-        }
+        let times = race(vec![product_row(&file, word), product_row_quick(&file, word)]);
+        let (full, quick) = (times[0].1, times[1].1);
+        let share = quick / full;
+        println!(
+            "quick row, {}, {what} word: product {quick:.1}, full row {full:.1} ({share:.3} of it)",
+            sheet.what
+        );
     }
 }
 
-#[cfg(linked)]
-fn product_make(numbers: &[u16]) -> Vec<(&'static str, f64)> {
+fn product_make(numbers: &[u16]) -> Runner<'static> {
     let sheet = Lent::shared(numbers, Placement::EndsAtGuard);
     let work = Lent::copy_of(&vec![0; WORK_WORDS], Placement::EndsAtGuard);
     let out = Lent::copy_of(&vec![0; 65_536], Placement::EndsAtGuard);
-    let time = fastest(|| library::make(&sheet, &work, &out).length as usize);
-    vec![("product", time)]
+    let call = move || library::make(&sheet, &work, &out).length as usize;
+    ("product", Box::new(call))
 }
 
-#[cfg(linked)]
-fn product_row(file: &[u8], word: u32) -> Vec<(&'static str, f64)> {
+fn product_row(file: &[u8], word: u32) -> Runner<'static> {
     let lent = Lent::shared(file, Placement::EndsAtGuard);
-    let time = fastest(|| usize::from(library::row(&lent, word).tick));
-    vec![("product", time)]
+    ("product", Box::new(move || usize::from(library::row(&lent, word).tick)))
 }
 
-#[cfg(linked)]
-fn product_row_quick(file: &[u8], word: u32) -> Vec<(&'static str, f64)> {
+fn product_row_quick(file: &[u8], word: u32) -> Runner<'static> {
     let lent = Lent::shared(file, Placement::EndsAtGuard);
-    let time = fastest(|| usize::from(library::row_quick(&lent, word).tick));
-    vec![("product", time)]
-}
-
-#[cfg(not(linked))]
-fn product_make(_numbers: &[u16]) -> Vec<(&'static str, f64)> {
-    Vec::new()
-}
-
-#[cfg(not(linked))]
-fn product_row(_file: &[u8], _word: u32) -> Vec<(&'static str, f64)> {
-    Vec::new()
-}
-
-#[cfg(not(linked))]
-fn product_row_quick(_file: &[u8], _word: u32) -> Vec<(&'static str, f64)> {
-    Vec::new()
+    ("product", Box::new(move || usize::from(library::row_quick(&lent, word).tick)))
 }

@@ -3,24 +3,17 @@
 //! The printing program is measured as a whole process: text in, table out. So are the second
 //! program and its tuned variant, which are this program, called with `print`.
 
-use crate::bench::{fastest, print_times};
 use crate::found::{self, Found};
-#[cfg(linked)]
 use crate::guarded::{Lent, Placement};
-#[cfg(linked)]
 use crate::library;
+use crate::race::{print_race, Runner};
 use crate::replies::Desk;
 use crate::second::calls::{self, table_of};
 use crate::second::file::write;
-use crate::second::sheet::Sheet;
 use crate::second::state::State;
-use crate::second::text;
 use crate::texts::{printed, text_of};
-use crate::tuned;
 use crate::tuned_read;
-use crate::tuned_text;
 use std::env;
-use std::io::{self, Read, Write};
 
 pub fn steps() {
     for sheet in found::all().iter().filter(|sheet| sheet.rows > 7_000) {
@@ -34,24 +27,18 @@ fn step(sheet: &Found) {
     let table = table_of(&numbers).expect("a table");
     let file = write(&table.sheet, &table.rows);
     let desk = State::finished(&table.sheet).desk();
-    let plain = fastest(|| calls::step(&file, desk, 0).0.number as usize + 1);
-    let mut others =
-        vec![("tuned", fastest(|| tuned_read::step(&file, desk, 0).0.number as usize + 1))];
-    others.extend(product_step(&file, desk));
-    print_times(&format!("step, {}", sheet.what), plain, &others);
+    let mut runners: Vec<Runner> = vec![
+        ("second program", Box::new(|| calls::step(&file, desk, 0).0.number as usize + 1)),
+        ("tuned", Box::new(|| tuned_read::step(&file, desk, 0).0.number as usize + 1)),
+    ];
+    runners.push(product_step(&file, desk));
+    print_race(&format!("step, {}", sheet.what), runners);
 }
 
-#[cfg(linked)]
-fn product_step(file: &[u8], desk: Desk) -> Vec<(&'static str, f64)> {
+fn product_step(file: &[u8], desk: Desk) -> Runner<'static> {
     let file = Lent::shared(file, Placement::EndsAtGuard);
     let desk = Lent::copy_of(&[desk], Placement::EndsAtGuard);
-    let time = fastest(|| library::step(&file, &desk, 0).number as usize + 1);
-    vec![("product", time)]
-}
-
-#[cfg(not(linked))]
-fn product_step(_file: &[u8], _desk: Desk) -> Vec<(&'static str, f64)> {
-    Vec::new()
+    ("product", Box::new(move || library::step(&file, &desk, 0).number as usize + 1))
 }
 
 /// From the smallest to the largest tables, so that the growth can be seen.
@@ -68,28 +55,15 @@ fn process(program: &str, sheet: &Found) {
     let input = text_of(&sheet.numbers());
     let own = env::current_exe().expect("this program's path");
     let own = own.to_str().expect("a path of letters");
-    let time = |program: &str, words: &[&str]| {
-        fastest(|| printed(program, words, &input).expect("a table").len())
+    let by = |program: &'_ str, words: &'static [&'static str]| {
+        let (program, input) = (program.to_string(), input.clone());
+        Box::new(move || printed(&program, words, &input).expect("a table").len())
     };
-    let plain = time(own, &["print"]);
-    let others = [("tuned", time(own, &["print", "tuned"])), ("product", time(program, &[]))];
     let what = format!("print, {} live states, {} rows", sheet.live, sheet.rows);
-    print_times(&what, plain, &others);
-}
-
-/// What the second program, or its tuned variant, prints for standard input.
-pub fn print(by_tuned: bool) -> io::Result<()> {
-    let mut input = Vec::new();
-    io::stdin().read_to_end(&mut input)?;
-    let output = if by_tuned { tuned_print(&input) } else { text::print(&input) };
-    io::stdout().write_all(&output)
-}
-
-/// A table by the tuned maker; every refusal is left to the second program.
-fn tuned_print(input: &[u8]) -> Vec<u8> {
-    let sheet = text::numbers_in(input).and_then(|numbers| Sheet::of_numbers(&numbers));
-    match sheet.filter(|sheet| sheet.lowest_bad_job().is_none()).and_then(|s| tuned::make(&s)) {
-        Some(file) => tuned_text::lines(&file),
-        None => text::print(input),
-    }
+    let runners: Vec<Runner> = vec![
+        ("second program", by(own, &["print"])),
+        ("tuned", by(own, &["print", "tuned"])),
+        ("product", by(program, &[])),
+    ];
+    print_race(&what, runners);
 }

@@ -2,27 +2,25 @@
 //!
 //! `self` holds the second program to the sheets worked by hand, to counts at the limits and to
 //! files whose form was settled by hand. `compare` holds every call of the product to the second
-//! program; it is there when the product's library is linked. `text` does the same for the
-//! printing program, named by its path. `bench` measures the calls and, where it is named, that
-//! program. `print` is the second program's printing program, or the tuned one's. `once` makes one
-//! table, for `phases`.
+//! program; `text` does the same for the printing program, named by its path. `bench` measures the
+//! calls and, where it is named, that program. `print` is the second program's printing program, or
+//! the tuned one's. `once` makes one table, for `phases`.
 
 mod bench;
 mod bench_print;
 mod buffers;
 mod clauses;
-#[cfg(linked)]
 mod compare;
 mod damage;
 mod foreign;
 mod forms;
 mod found;
-#[cfg(linked)]
 mod guarded;
-#[cfg(linked)]
 mod library;
 mod limits;
 mod played;
+mod printer;
+mod race;
 mod random;
 mod refusals;
 mod replies;
@@ -50,7 +48,6 @@ fn main() -> ExitCode {
     let words: Vec<&str> = arguments.iter().map(String::as_str).collect();
     match words.split_first() {
         Some((&"self", [])) => own_tests(),
-        #[cfg(linked)]
         Some((&"compare", rest)) => match seed_and_cases(rest) {
             Some((seed, cases)) => compare::run(seed, cases),
             None => return usage(),
@@ -65,11 +62,10 @@ fn main() -> ExitCode {
             rest.iter().for_each(|program| bench_print::processes(program));
             return ExitCode::SUCCESS;
         }
-        Some((&"print", rest @ ([] | ["tuned"]))) => match bench_print::print(!rest.is_empty()) {
+        Some((&"print", rest @ ([] | ["tuned"]))) => match printer::print(!rest.is_empty()) {
             Ok(()) => return ExitCode::SUCCESS,
             Err(_) => return ExitCode::FAILURE,
         },
-        #[cfg(linked)]
         Some((&"once", [place, bytes])) => match (place.parse(), bytes.parse()) {
             (Ok(place), Ok(bytes)) if bench::once(place, bytes) => return ExitCode::SUCCESS,
             _ => return usage(),

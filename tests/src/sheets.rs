@@ -49,9 +49,20 @@ fn draw_of(kind: Kind) -> Draw {
     }
 }
 
+/// A sheet of good form of so many jobs, crowded or spread, short or long.
+pub fn of_jobs(jobs: usize, random: &mut Random) -> Vec<u16> {
+    let last_arrival = *random.pick(&[0, 4, 16, 60, 150]);
+    let most = *random.pick(&[1, 2, 4, 16, 60]);
+    let spare = *random.pick(&[6, 12, 24, 60, 220]);
+    drawn(Kind::Anything, Draw { jobs: (jobs, jobs), last_arrival, most, spare }, random)
+}
+
 /// A sheet of good form, as numbers, job after job.
 pub fn of_kind(kind: Kind, random: &mut Random) -> Vec<u16> {
-    let draw = draw_of(kind);
+    drawn(kind, draw_of(kind), random)
+}
+
+fn drawn(kind: Kind, draw: Draw, random: &mut Random) -> Vec<u16> {
     let jobs = random.from_to(draw.jobs.0, draw.jobs.1);
     let together = random.below(200);
     let mut numbers = Vec::new();

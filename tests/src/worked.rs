@@ -14,7 +14,6 @@ pub const S1: [u16; 4] = [0, 1, 1, 1];
 pub const S2: [u16; 8] = [0, 2, 4, 7, 1, 1, 2, 4];
 
 /// The sheets worked by hand, good and refused.
-#[cfg(linked)]
 pub const WORKED: [&[u16]; 7] = [
     &S1,
     &S2,

@@ -44,10 +44,8 @@ fn make(sheet: &Lent<u16>) -> (u32, u32) {
 
 /// The sheets worked by hand, and some with too many live states for make.
 fn worked_sheets() {
-    let many_live: [&[u16]; 2] = [
-        &[0, 1, 1, 255, 0, 1, 1, 255, 0, 1, 1, 255, 0, 1, 1, 255],
-        &[5, 25, 41, 202],
-    ];
+    let many_live: [&[u16]; 2] =
+        [&[0, 1, 1, 255, 0, 1, 1, 255, 0, 1, 1, 255, 0, 1, 1, 255], &[5, 25, 41, 202]];
     let mut group = Group::new("engine: sheets worked by hand");
     for numbers in WORKED.into_iter().chain(many_live) {
         judge(&mut group, numbers);
