@@ -10,7 +10,8 @@ use Rattle.sheet.specs.Model.{Sheet}
 use Rattle.sheet.specs.Table.{Entry}
 use Rattle.blocks.specs.Sizes.{block-bytes, block-slots, slot-bytes, most-jobs}
 use Rattle.blocks.specs.File.{block-of, job-slot, row-slot, block-for, written, blocks-of, bytes-of}
-use Rattle.blocks.specs.Held.{job-of, sheet-of, entry-of, tab, entries-from, entries-of}
+use Rattle.sheet.specs.Arrays.{job-of, sheet-of}
+use Rattle.blocks.specs.Held.{entry-of, tab, entries-from, entries-of}
 use Rattle.blocks.specs.TabLaws.{take-is-tab, part-tab, map-tab}
 use Rattle.blocks.specs.BlockLaws.{block-length}
 

@@ -1,17 +1,8 @@
--- A sheet and rows as the code holds them: jobs as arrays of four numbers, rows as words and marks in two slices.
+-- Rows as the code holds them: words and marks in two slices.
 use Prim.Native.Nat.{ℕ, zero, suc, _+_, _/_, _%_}
-use mathlib.Core.List.{List, [], _∷_, map}
-use lib.ListN.{getD, take}
-use Rattle.sheet.specs.Model.{Job, Sheet}
+use mathlib.Core.List.{List, [], _∷_}
+use lib.ListN.{getD}
 use Rattle.sheet.specs.Table.{Entry}
-
--- "four numbers each .. arrival tick A, fewest ticks B, most ticks W, due ticks D" (01, "Sheet")
-abbrev pub job-of : List ℕ → Job
-job-of l = record { arrives = getD l 0 0; fewest = getD l 1 0; most = getD l 2 0; due = getD l 3 0 }
-
--- the first n of the arrays
-abbrev pub sheet-of : List (List ℕ) → ℕ → Sheet
-sheet-of jobs n = map job-of (take n jobs)
 
 -- "A row holds the byte of starts and the tick code" (01, "Safe states"): a mark is starts + 256 × tick code
 abbrev pub row-of : (word mark : ℕ) → Entry

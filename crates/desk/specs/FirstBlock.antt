@@ -7,7 +7,7 @@ use lib.ListN.{length, getD, take}
 use lib.Seq.{ext-getD}
 use Rattle.sheet.specs.Model.{Sheet, State}
 use Rattle.sheet.specs.Table.{Entry}
-use Rattle.state.specs.Clocks.{sheet-of}
+use Rattle.sheet.specs.Arrays.{sheet-of}
 use Rattle.look.specs.Look.{look-of}
 use Rattle.look.specs.declared.Look.{Look}
 use Rattle.blocks.specs.Sizes.{block-bytes}

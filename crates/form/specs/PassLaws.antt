@@ -14,7 +14,7 @@ use Rattle.plant.specs.Marks.{Has}
 use Rattle.plant.specs.Reflect.{Is, is-map, is-eq, is-and, is-true}
 use Rattle.sheet.specs.Model.{Job, Sheet, job, State, status}
 use Rattle.sheet.specs.Form.{state-of}
-use Rattle.state.specs.Clocks.{job-of, sheet-of}
+use Rattle.sheet.specs.Arrays.{job-of, sheet-of}
 use Rattle.state.specs.SheetLaws.{job-suc}
 use Rattle.state.specs.Tell.{tell-no, told-yes, told-no}
 use Rattle.form.specs.declared.row.Seen.the-variants.{Passed}

@@ -10,7 +10,7 @@ use lib.Dec.{eqb, leb}
 use Rattle.plant.specs.Reflect.{Is, is-map, is-le, is-eq, is-and, is-not, is-dec, stable}
 use Rattle.sheet.specs.Model.{Sheet, State, Finished}
 use Rattle.sheet.specs.Form.{state-of, Good-entry}
-use Rattle.state.specs.Clocks.{sheet-of}
+use Rattle.sheet.specs.Arrays.{sheet-of}
 use Rattle.state.specs.SheetLaws.{length-sheet}
 use Rattle.state.specs.Tell.{tell-no, told-yes, told-no}
 use Rattle.form.specs.declared.row.Seen.the-variants.{Refused, Passed}

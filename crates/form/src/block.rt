@@ -3,7 +3,7 @@ ghost use mathlib.Core.Path.{_≡_};
 ghost use Prim.Native.Nat.{ℕ, _≤_, _<_, _+_};
 ghost use lib.ListN.{length};
 ghost use Rattle.plant.specs.Reflect.{Is};
-ghost use Rattle.state.specs.Clocks.{sheet-of};
+ghost use Rattle.sheet.specs.Arrays.{sheet-of};
 ghost use Rattle.blocks.specs.Sizes.{block-bytes, block-slots, slot-bytes, most-jobs, most-blocks};
 ghost use Rattle.blocks.specs.Fields.{Framed};
 ghost use Rattle.form.specs.BlockTest.{Zeros, Jobs-block, Slot-good, Count-fits, Follows, Rows-block, four-at, fours};
@@ -19,7 +19,7 @@ use blocks::sizes::SLOTS;
 use state::jobs::job_good;
 
 // A byte as a count.
-fn size(b: u8) -> usize
+pub fn size(b: u8) -> usize
     ensures { λ r. ⌜ (r ≡ b) × (r ≤ 255) ⌝ }
 {
     b as usize

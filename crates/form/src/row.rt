@@ -5,7 +5,7 @@ ghost use Prim.Native.Nat.{_-_, _≤_, _<_, _/_, _%_, _^_};
 ghost use lib.Dec.{eqb};
 ghost use Rattle.plant.specs.Reflect.{Is};
 ghost use Rattle.sheet.specs.Form.{state-of, Good-entry};
-ghost use Rattle.state.specs.Clocks.{job-of, sheet-of};
+ghost use Rattle.sheet.specs.Arrays.{job-of, sheet-of};
 ghost use Rattle.form.specs.RowTest.{Job-fits, Pends, Spends, Tells, Ends, Marks-fit};
 use state::bits::has;
 use state::bits::status_in;

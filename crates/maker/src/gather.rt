@@ -3,7 +3,7 @@ ghost use mathlib.Core.Path.{_≡_};
 ghost use mathlib.Core.Bool.{cond};
 ghost use Prim.Native.Nat.{_+_, _/_, _≤_, _<_};
 ghost use lib.Dec.{leb};
-ghost use lib.ListN.{length, getD, set};
+ghost use lib.ListN.{length, getD};
 ghost use Rattle.ascending.specs.Ascending.{work-words};
 ghost use Rattle.live.specs.Growing.{most-live};
 ghost use Rattle.maker.specs.Gathering.{moved, Gathered};

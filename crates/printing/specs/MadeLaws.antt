@@ -19,7 +19,8 @@ use Rattle.blocks.specs.File.{bytes-of}
 use Rattle.blocks.specs.FileLaws.{length-bytes}
 use Rattle.ascending.specs.Ascending.{work-words}
 use Rattle.live.specs.Growing.{most-live}
-use Rattle.maker.specs.Making.{Sheet-length, lent, size-of, Made, Answered}
+use Rattle.state.specs.Lent.{lent}
+use Rattle.maker.specs.Making.{Sheet-length, size-of, Made, Answered}
 use Rattle.maker.specs.Making as making
 use Rattle.maker.specs.declared.MakeReply.{MakeReply}
 use Rattle.table.specs.Reading.{Table, Says, good}

@@ -14,7 +14,7 @@ use Rattle.sheet.specs.RowsLaws.{rows-one}
 use Rattle.state.specs.Lowest.{lowest-bad}
 use Rattle.state.specs.LowestLaws.{good-sheet}
 use Rattle.live.specs.Growing.{most-live}
-use Rattle.maker.specs.Making.{lent}
+use Rattle.state.specs.Lent.{lent}
 use Rattle.lines.specs.Lines.{listing-text}
 use Rattle.text.specs.SheetText.{Spells}
 use Rattle.text.specs.Fields.{ending, run, Numbers}

@@ -11,7 +11,7 @@ use Rattle.sheet.specs.Table.{Entry, Rows}
 use Rattle.state.specs.Lowest.{lowest-bad}
 use Rattle.blocks.specs.Sizes.{most-rows}
 use Rattle.live.specs.Growing.{most-live}
-use Rattle.maker.specs.Making.{lent}
+use Rattle.state.specs.Lent.{lent}
 use Rattle.lines.specs.Lines.{line-bytes, listing-text, refusal-text}
 use Rattle.text.specs.SheetText.{Spells}
 use Rattle.lines.specs.Printed.{Printed}

@@ -20,7 +20,8 @@ use Rattle.blocks.specs.FileLaws.{length-bytes}
 use Rattle.table.specs.Reading.{Reading, good, bad}
 use Rattle.table.specs.Replies.{lookup}
 use Rattle.table.specs.declared.row.RowReply.{RowReply}
-use Rattle.maker.specs.Making.{lent, size-of, Cleared, Answered, too-many, impossible, too-long, done, Made, bad-length, bad-job, no-room, answered}
+use Rattle.state.specs.Lent.{lent}
+use Rattle.maker.specs.Making.{size-of, Cleared, Answered, too-many, impossible, too-long, done, Made, bad-length, bad-job, no-room, answered}
 use Rattle.maker.specs.OneAnswer.{made-one}
 use Rattle.maker.specs.declared.MakeReply.{MakeReply}
 use Rattle.desk.specs.Stepping.{state-in, known, on, names, allows, stays, moves, in-row, asked, step-reply}

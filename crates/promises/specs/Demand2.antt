@@ -16,7 +16,10 @@ use Rattle.table.specs.OneReading.{reading}
 use Rattle.table.specs.TableBytes.{read-back, back-written}
 use Rattle.table.specs.Replies.{lookup, refused, row-reply, listed, listing-reply}
 use Rattle.table.specs.declared.row.RowReply.{RowReply}
-use Rattle.maker.specs.Making.{lent, Made}
+use Rattle.state.specs.Lent.{lent}
+use Rattle.quick.specs.Quick.{Quick}
+use Rattle.quick.specs.QuickLaws.{quick-is-row}
+use Rattle.maker.specs.Making.{Made}
 use Rattle.maker.specs.declared.MakeReply.{MakeReply}
 use Rattle.promises.specs.MadeLaws.{Done, is-done, done-read}
 use Rattle.promises.specs.TakenLaws.{of-state, found}
@@ -34,6 +37,8 @@ pub record Demand-2 (numbers file : List ℕ) : Type 0 where
       × Starts (plant (lent numbers)) q (row-reply (word q) (reading file) .starts)
       × Code (plant (lent numbers)) q (row-reply (word q) (reading file) .tick)
   pub no-row : (w : ℕ) → ((q : State) → Row (plant (lent numbers)) q → word q ≢ w) → row-reply w (reading file) ≡ refused 8 0
+  -- "For every file of good form the reply equals the full row call's." (02, #104)
+  pub quick-row : (w : ℕ) (r : RowReply) → Quick file w r → r ≡ row-reply w (reading file)
   -- and the listing call has the jobs and the rows, one after the other
   pub listing : (i : ℕ) → 1 ≤ i → i ≤ length rows → listing-reply i (reading file) ≡ listed (lent numbers) rows (at rows (i - 1))
 
@@ -64,6 +69,7 @@ module _ {numbers file : List ℕ} (d : Done numbers file) where
           subst (Code (plant σ) q) (sym (ap (λ (t : RowReply). t .tick) r)) (e .tick),
         );
     no-row = λ w f. row-is w ∙ lookup-none w (d .rows) (λ e m x. let s = d .right .each e m in f (s .0) (s .1) (sym (s .2 .word) ∙ x));
+    quick-row = λ w r. quick-is-row file w r σ (d .rows) (done-read d);
     listing = λ i a b. ap (listing-reply i) (done-read d) ∙ rw (is-true (is-and (is-le 1 i) (is-le i (length (d .rows)))) (a, b)) (λ k. listed σ (d .rows) (at (d .rows) (i - 1)));
   }
 

@@ -17,7 +17,8 @@ use Rattle.state.specs.LowestLaws.{good-sheet}
 use Rattle.table.specs.OneReading.{reading}
 use Rattle.ascending.specs.Ascending.{work-words}
 use Rattle.live.specs.Growing.{most-live}
-use Rattle.maker.specs.Making.{Sheet-length, lent, Answered, too-many, impossible, too-long, done, Made, bad-length, bad-job, no-room, answered}
+use Rattle.state.specs.Lent.{lent}
+use Rattle.maker.specs.Making.{Sheet-length, Answered, too-many, impossible, too-long, done, Made, bad-length, bad-job, no-room, answered}
 use Rattle.maker.specs.declared.MakeReply.{MakeReply}
 use Rattle.desk.specs.Stepping.{state-in, desk-of, step-reply}
 use Rattle.desk.specs.declared.desk.Desk.{Desk}

@@ -14,7 +14,8 @@ use Rattle.state.specs.Lowest.{lowest-bad}
 use Rattle.state.specs.LowestLaws.{good-sheet}
 use Rattle.ascending.specs.Ascending.{work-words}
 use Rattle.live.specs.Growing.{most-live}
-use Rattle.maker.specs.Making.{Sheet-length, lent, Answered, Made}
+use Rattle.state.specs.Lent.{lent}
+use Rattle.maker.specs.Making.{Sheet-length, Answered, Made}
 use Rattle.maker.specs.Making as maker
 use Rattle.maker.specs.declared.MakeReply.{MakeReply}
 use Rattle.engine.specs.Verdict as engine

@@ -10,13 +10,14 @@ use Rattle.plant.specs.Lists.{Number, number-unique}
 use Rattle.plant.specs.Rule.{reached}
 use Rattle.sheet.specs.Model.{Sheet, initial, plant}
 use Rattle.sheet.specs.Starred.{stars, starred}
-use Rattle.state.specs.Clocks.{arrays}
+use Rattle.sheet.specs.Arrays.{arrays}
 use Rattle.blocks.specs.Sizes.{letter-t}
 use Rattle.table.specs.Reading.{Reading, good, bad}
 use Rattle.table.specs.ReadingLaws.{at-block, jobs-framed}
 use Rattle.table.specs.OneReading.{reading, reading-says}
 use Rattle.live.specs.Growing.{most-live}
-use Rattle.maker.specs.Making.{lent, Answered, too-many, impossible, too-long, done, Made, bad-length, bad-job, no-room, answered}
+use Rattle.state.specs.Lent.{lent}
+use Rattle.maker.specs.Making.{Answered, too-many, impossible, too-long, done, Made, bad-length, bad-job, no-room, answered}
 use Rattle.maker.specs.declared.MakeReply.{MakeReply}
 use Rattle.desk.specs.Stepping.{desk-of, step-reply}
 use Rattle.desk.specs.declared.desk.Desk.{Desk}

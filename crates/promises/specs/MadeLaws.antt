@@ -18,7 +18,8 @@ use Rattle.table.specs.Reading.{Table, good}
 use Rattle.table.specs.OneReading.{reading}
 use Rattle.table.specs.TableBytes.{read-back}
 use Rattle.live.specs.Growing.{most-live}
-use Rattle.maker.specs.Making.{lent, size-of, Answered, too-many, impossible, too-long, done, Made, bad-length, bad-job, no-room, answered}
+use Rattle.state.specs.Lent.{lent}
+use Rattle.maker.specs.Making.{size-of, Answered, too-many, impossible, too-long, done, Made, bad-length, bad-job, no-room, answered}
 use Rattle.maker.specs.declared.MakeReply.{MakeReply}
 
 pub number-of : {r s : MakeReply} → r ≡ s → r .number ≡ s .number

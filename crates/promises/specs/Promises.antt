@@ -11,7 +11,8 @@ use Rattle.plant.specs.Lists.{Number}
 use Rattle.sheet.specs.Model.{Good, plant}
 use Rattle.ascending.specs.Ascending.{work-words}
 use Rattle.live.specs.Growing.{most-live}
-use Rattle.maker.specs.Making.{Sheet-length, lent, Made}
+use Rattle.state.specs.Lent.{lent}
+use Rattle.maker.specs.Making.{Sheet-length, Made}
 use Rattle.maker.specs.declared.MakeReply.{MakeReply}
 use Rattle.promises.specs.Demand1.{Kept, made-kept}
 use Rattle.promises.specs.Demand2.{Demand-2, demand-2}

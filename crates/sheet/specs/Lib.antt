@@ -3,6 +3,7 @@
 pub mod Model
 pub mod Table
 pub mod Form
+pub mod Arrays
 -- What follows:
 pub mod WordLaws
 pub mod ModelTests

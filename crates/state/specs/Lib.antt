@@ -3,6 +3,7 @@
 pub mod EventByte
 pub mod Bits
 pub mod Clocks
+pub mod Lent
 pub mod Lowest
 -- What follows:
 pub mod EventLaws
@@ -11,3 +12,4 @@ pub mod WordBack
 pub mod Tell
 pub mod SheetLaws
 pub mod LowestLaws
+pub mod LentLaws

@@ -11,7 +11,7 @@ use lib.Dec.{eqb, eqb·suc-zero}
 use Rattle.plant.specs.Search.{In}
 use Rattle.plant.specs.Reflect.{Is, is-map, is-le, is-and, is-and3, is-not, is-dec, stable}
 use Rattle.sheet.specs.Model.{Job, Sheet, job, Good-job, Good}
-use Rattle.state.specs.Clocks.{job-of, sheet-of}
+use Rattle.sheet.specs.Arrays.{job-of, sheet-of}
 use Rattle.state.specs.Lowest.{lowest, good, lowest-bad}
 use Rattle.state.specs.SheetLaws.{length-sheet, job-suc}
 

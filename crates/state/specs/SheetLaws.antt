@@ -7,7 +7,7 @@ use lib.ListN.{length, getD, take, length-map, length-take, List·getD-map}
 use lib.Seq.{getD-take}
 use Rattle.plant.specs.Search.{In}
 use Rattle.sheet.specs.Model.{job}
-use Rattle.state.specs.Clocks.{job-of, sheet-of}
+use Rattle.sheet.specs.Arrays.{job-of, sheet-of}
 
 module _ (jobs : List (List ℕ)) (n : ℕ) where
   pub length-sheet : n ≤ length jobs → length (sheet-of jobs n) ≡ n

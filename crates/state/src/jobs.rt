@@ -4,8 +4,12 @@ ghost use Prim.Native.Nat.{_<_, _≤_};
 ghost use lib.ListN.{getD};
 ghost use Rattle.plant.specs.Reflect.{Is};
 ghost use Rattle.sheet.specs.Model.{Good-job};
-ghost use Rattle.state.specs.Clocks.{job-of, sheet-of, four, arrays};
+ghost use Rattle.sheet.specs.Arrays.{job-of, sheet-of, four, arrays};
+ghost use Rattle.state.specs.Lent.{Jobs-in};
 ghost use Rattle.state.specs.Lowest.{lowest-bad};
+
+// How many jobs a sheet has at most.
+pub const JOBS: usize = 8;
 
 // A job's number as a u32, where no sum of two wraps.
 fn wide(x: u16) -> u32
@@ -68,6 +72,22 @@ fn job_from(numbers: &[u16], i: usize) -> [u16; 4]
     let most = number(numbers, i + 2);
     let due = number(numbers, i + 3);
     [arrives, fewest, most, due]
+}
+
+// The jobs of a sheet of so many numbers, or 0 where they are no sheet of at most so many jobs.
+pub fn jobs_in(numbers: usize, most: usize) -> usize
+    ensures { λ r. ⌜ Jobs-in most numbers r ⌝ }
+{
+    if numbers % 4 != 0 {
+        return 0;
+    }
+    if numbers < 4 {
+        return 0;
+    }
+    if most < numbers / 4 {
+        return 0;
+    }
+    numbers / 4
 }
 
 // The sheet of the numbers lent, job after job, with zeros past the last.

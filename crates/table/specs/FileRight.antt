@@ -9,7 +9,7 @@ use lib.ListN.{length, getD}
 use Rattle.plant.specs.Reflect.{Is}
 use Rattle.sheet.specs.Model.{Sheet}
 use Rattle.sheet.specs.Table.{Entry, at}
-use Rattle.state.specs.Clocks.{sheet-of}
+use Rattle.sheet.specs.Arrays.{sheet-of}
 use Rattle.blocks.specs.Sizes.{block-bytes}
 use Rattle.blocks.specs.BytesLaws.{Each-byte}
 use Rattle.blocks.specs.Fields.{slot-at, job-from}

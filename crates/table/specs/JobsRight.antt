@@ -7,7 +7,7 @@ use lib.ListN.{length, getD}
 use lib.Seq.{ext-getD}
 use Rattle.sheet.specs.Model.{Job}
 use Rattle.sheet.specs.Table.{at}
-use Rattle.state.specs.Clocks.{job-of, sheet-of}
+use Rattle.sheet.specs.Arrays.{job-of, sheet-of}
 use Rattle.state.specs.SheetLaws.{length-sheet, job-suc}
 use Rattle.blocks.specs.Sizes.{slot-bytes, most-jobs}
 use Rattle.blocks.specs.BytesLaws.{Each-byte}

@@ -71,9 +71,6 @@ module _ {file : List ℕ} {σ : Sheet} {rows : List Entry} (s : Says file (good
   pub word-placed : (i : ℕ) → i < length rows → u32-at file (place i) ≡ at rows i .word
   word-placed = word-lies (s .0) (s .1)
 
-  pub places-ascend : Ascends file (length rows)
-  places-ascend = lies-ascend (s .0) (s .1)
-
   pub places-end : (i : ℕ) → i < length rows → place i + slot-bytes ≤ length file
   places-end = lies-end (s .0) (s .1)
 

@@ -13,7 +13,7 @@ use Rattle.table.specs.Reading.{Sized, Reads}
 use Rattle.table.specs.Places.{place, Finds}
 use Rattle.table.specs.PlaceLaws.{climb, row-lies}
 use Rattle.table.specs.Replies.{refused, told, lookup}
-use Rattle.table.specs.declared.place.Found.the-variants.{Nowhere, At}
+use Rattle.table.specs.declared.place.Found.the-variants.{At}
 
 lookup-at : (w : ℕ) (rows : List Entry) (i : ℕ) → i < length rows → ((j : ℕ) → j < i → at rows j .word ≢ w) → at rows i .word ≡ w → lookup w rows ≡ told (at rows i)
 unfolding lookup

@@ -3,7 +3,7 @@ ghost use mathlib.Core.Path.{_≡_};
 ghost use Prim.Native.Nat.{_≤_, _<_, _*_};
 ghost use lib.ListN.{length};
 ghost use Rattle.plant.specs.Reflect.{Is};
-ghost use Rattle.state.specs.Clocks.{sheet-of};
+ghost use Rattle.sheet.specs.Arrays.{sheet-of};
 ghost use Rattle.blocks.specs.Sizes.{block-bytes, most-blocks, most-jobs};
 ghost use Rattle.form.specs.BlockTest.{Rows-block};
 ghost use Rattle.table.specs.Reading.{block-at};

@@ -14,18 +14,12 @@ use blocks::sizes::BLOCK;
 use blocks::sizes::HEADER;
 use blocks::sizes::SLOT;
 use blocks::sizes::SLOTS;
+use form::block::size;
 
 // The row that has a word, counted from 0, or none.
 pub enum Found {
     Nowhere,
     At(usize),
-}
-
-// A byte as a count.
-fn size(b: u8) -> usize
-    ensures { λ r. ⌜ (r ≡ b) × (r ≤ 255) ⌝ }
-{
-    b as usize
 }
 
 // Where row i stands, counted from 0.

@@ -8,7 +8,8 @@ use borrow.Rule.Slice.PartMut.{same-len-mid}
 use Rattle.sheet.specs.Model.{Sheet}
 use Rattle.blocks.specs.Sizes.{block-bytes}
 use Rattle.blocks.specs.File.{written, blocks-of}
-use Rattle.blocks.specs.Held.{sheet-of, entry-of, entries-of}
+use Rattle.sheet.specs.Arrays.{sheet-of}
+use Rattle.blocks.specs.Held.{entry-of, entries-of}
 use Rattle.blocks.specs.TabLaws.{length-tab}
 use Rattle.blocks.specs.FileLaws.{block-more, block-first, length-sheet, jobs-block, rows-block}
 use borrow.Author.Needs.{needs}

@@ -6,7 +6,7 @@ use mathlib.Core.List.{[]}
 use lib.ListN.{length, getD, take}
 use Rattle.blocks.specs.Sizes.{block-bytes, header-bytes, slot-bytes}
 use Rattle.blocks.specs.File.{job-slot}
-use Rattle.blocks.specs.Held.{job-of}
+use Rattle.sheet.specs.Arrays.{job-of}
 use Rattle.writer.specs.WriteLaws.{so-far, head-turn, slot-turn, end-turn}
 use Rattle.blocks.specs.FileLaws.{sheet-tab}
 use borrow.Author.Needs.{needs}

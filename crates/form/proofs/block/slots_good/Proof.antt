@@ -4,7 +4,7 @@ use native.Mathlib.Omega.{arith}
 use borrow.Author.Needs.{needs}
 use borrow.Author.Count.{below-more}
 use borrow.Author.Tests.{not-true, not-false}
-use Rattle.state.specs.Clocks.{sheet-of}
+use Rattle.sheet.specs.Arrays.{sheet-of}
 use Rattle.state.specs.Tell.{tell-yes, tell-no, told-yes, told-no}
 use Rattle.form.specs.BlockTest.{Slot-good}
 use Rattle.form.proofs.block.slots_good.Statement.{statement}

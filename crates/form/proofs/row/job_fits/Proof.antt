@@ -1,7 +1,7 @@
 -- Each status asks its rule. Assumes nothing.
 use native.Mathlib.Omega.{arith}
 use borrow.Author.Needs.{needs}
-use Rattle.state.specs.Clocks.{job-of}
+use Rattle.sheet.specs.Arrays.{job-of}
 use Rattle.state.specs.Tell.{tell-no}
 use Rattle.form.specs.TestLaws.{one-bit, fits-ready, fits-marked, fits-waiting, fits-done, fits-running}
 use Rattle.form.proofs.row.job_fits.Statement.{statement}

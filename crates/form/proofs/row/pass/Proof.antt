@@ -6,7 +6,7 @@ use borrow.Author.Needs.{needs}
 use borrow.Author.Tests.{not-true, not-false}
 use Rattle.sheet.specs.Form.{state-of}
 use Rattle.sheet.specs.WordLaws.{digits-lt}
-use Rattle.state.specs.Clocks.{sheet-of}
+use Rattle.sheet.specs.Arrays.{sheet-of}
 use Rattle.state.specs.Tell.{told-yes, told-no}
 use Rattle.form.specs.declared.row.Seen.the-variants.{Passed}
 use Rattle.form.specs.RowTest.{Tells}

@@ -1,7 +1,7 @@
 -- The arrival is pending at its own tick. Assumes nothing.
 use borrow.Author.Needs.{needs}
 use Rattle.plant.specs.Reflect.{is-eq, is-and}
-use Rattle.state.specs.Clocks.{job-of}
+use Rattle.sheet.specs.Arrays.{job-of}
 use Rattle.form.proofs.row.pends.Statement.{statement}
 use Rattle.form.proofs.row.pends.Tie as tie
 

@@ -1,7 +1,7 @@
 -- A running job has had its most ticks. Assumes nothing.
 use borrow.Author.Needs.{needs}
 use Rattle.plant.specs.Reflect.{is-eq, is-and}
-use Rattle.state.specs.Clocks.{job-of}
+use Rattle.sheet.specs.Arrays.{job-of}
 use Rattle.form.proofs.row.spends.Statement.{statement}
 use Rattle.form.proofs.row.spends.Tie as tie
 

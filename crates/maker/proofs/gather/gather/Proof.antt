@@ -1,7 +1,6 @@
 -- `gather` meets its contract: the rows of the first i places are the first m, and what is ahead stands as it stood. Assumes nothing.
-use Prim.Native.Nat.{ℕ, _+_, _-_, _≤_}
+use Prim.Native.Nat.{_-_, _≤_}
 use native.Mathlib.Omega.{arith}
-use borrow.Author.Needs.{needs}
 use mathlib.Core.Path.{_≡_}
 use Rattle.maker.specs.GatheringLaws.{Ongoing, gather-begin, gather-more}
 use Rattle.maker.proofs.gather.gather.Statement.{statement}

@@ -1,9 +1,9 @@
 -- `keep_row` meets its contract: a mark below 2 is no row's. Assumes nothing.
-use Prim.Native.Nat.{ℕ, _+_}
+use Prim.Native.Nat.{_+_}
 use native.Mathlib.Omega.{arith}
 use borrow.Author.Needs.{needs}
 use borrow.Author.Tests.{le-leb, lt-leb}
-use mathlib.Core.Path.{_≡_, refl}
+use mathlib.Core.Path.{refl}
 use lib.ListN.{getD, length-set}
 use Rattle.live.specs.Growing.{most-live}
 use Rattle.maker.proofs.gather.keep_row.Statement.{statement}

@@ -9,7 +9,7 @@ use borrow.Author.Needs.{needs}
 use Rattle.sheet.specs.Model.{Good-job}
 use Rattle.state.specs.LowestLaws.{bad-at, none-bad}
 use Rattle.state.specs.Tell.{told-yes, told-no}
-use Rattle.state.specs.Clocks.{job-of}
+use Rattle.sheet.specs.Arrays.{job-of}
 use Rattle.state.proofs.jobs.lowest_bad.Statement.{statement}
 use Rattle.state.proofs.jobs.lowest_bad.Tie as tie
 

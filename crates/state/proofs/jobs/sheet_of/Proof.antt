@@ -1,6 +1,6 @@
 -- Eight jobs of four numbers each, in their places. Assumes nothing.
 use borrow.Author.Needs.{needs}
-use Rattle.state.specs.Clocks.{arrays}
+use Rattle.sheet.specs.Arrays.{arrays}
 use Rattle.state.proofs.jobs.sheet_of.Statement.{statement}
 use Rattle.state.proofs.jobs.sheet_of.Tie as tie
 
