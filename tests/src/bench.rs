@@ -21,9 +21,7 @@ pub fn run() {
     for jobs in 1..=MOST_JOBS {
         large(jobs);
     }
-    for due in GROWING_DUES {
-        growth(due);
-    }
+    growth();
     for sheet in found::all().iter().filter(|sheet| sheet.rows > 7_000) {
         row(sheet);
     }
@@ -71,15 +69,15 @@ fn large(jobs: usize) {
 const GROWING_DUES: [u16; 4] = [29, 58, 114, 224];
 
 /// How the time of make grows: n live states are searched by halves, so n log n is what to expect at most.
-fn growth(due: u16) {
-    let numbers = [2, 1, 1, due, 0, 1, 2, due + 5, 3, 1, 1, due + 1];
-    let jobs = Sheet::of_numbers(&numbers).expect("good length");
-    let live = Live::of_sheet(&jobs, MOST_LIVE).expect("few enough").count() as f64;
-    let (name, time) = race(vec![product_make(&numbers)])[0];
-    let each = 1_000.0 * time / (live * live.log2());
-    println!(
-        "growth, {live} live states: {name} {time:.1}, {each:.2} ns for each state and doubling"
-    );
+fn growth() {
+    let sheets = GROWING_DUES.map(|due| [2, 1, 1, due, 0, 1, 2, due + 5, 3, 1, 1, due + 1]);
+    let times = race(sheets.iter().map(|numbers| product_make(numbers)).collect());
+    for (numbers, (name, time)) in sheets.iter().zip(times) {
+        let sheet = Sheet::of_numbers(numbers).expect("good length");
+        let live = Live::of_sheet(&sheet, MOST_LIVE).expect("few enough").count() as f64;
+        let each = 1_000.0 * time / (live * live.log2());
+        println!("growth, {live} live states: {name} {time:.1}, {each:.2} ns for each state and doubling");
+    }
 }
 
 fn make(sheet: &Found) {
