@@ -39,7 +39,7 @@
 #include <stddef.h>
 #include <stdint.h>
 
-#define SMIRRADO_MAKE_STACK 102400   /* measured: 97,705 */
+#define SMIRRADO_MAKE_STACK 102400   /* measured: 98,648 */
 #define SMIRRADO_ROW_STACK 512       /* 421 */
 #define SMIRRADO_ROW_QUICK_STACK 512 /* 389 */
 #define SMIRRADO_LISTING_STACK 512   /* 373 */
