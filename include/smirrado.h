@@ -45,7 +45,7 @@
 #define SMIRRADO_LISTING_STACK 512   /* 373 */
 #define SMIRRADO_LEEWAY_STACK 512    /* 373 */
 #define SMIRRADO_STEP_STACK 768      /* 581 */
-#define SMIRRADO_ENGINE_STACK 131072 /* 60,128 */
+#define SMIRRADO_ENGINE_STACK 131072 /* 55,833 */
 
 #define SMIRRADO_JOBS 8           /* the most jobs of a sheet */
 #define SMIRRADO_ENGINE_JOBS 4    /* the most jobs of a sheet that engine judges */
