@@ -4,10 +4,13 @@ use native.Mathlib.Omega.{arith}
 use native.Mathlib.Decide.{decLt}
 use mathlib.Core.Path.{_≡_, refl, sym, ap, subst, _∙_}
 use mathlib.Core.Logic.{_≢_, inl, inr}
+use mathlib.Core.Bool.{Bool, true, false}
 use mathlib.Core.List.{List, []}
 use lib.ListN.{length, getD}
+use Rattle.plant.specs.Reflect.{Is}
 use Rattle.sheet.specs.Model.{Sheet}
 use Rattle.sheet.specs.Table.{Entry, at}
+use Rattle.state.specs.Tell.{told-yes, told-no}
 use Rattle.blocks.specs.Sizes.{block-slots, slot-bytes, most-rows}
 use Rattle.blocks.specs.Bytes.{u32-at}
 use Rattle.blocks.specs.BytesLaws.{Each-byte}
@@ -30,6 +33,17 @@ Past file w b = So-far file b × ((a : ℕ) → a < b → Goes-past file w a)
 -- blocks 0 to `b`, with `n` rows, are read
 abbrev pub Read-to : List ℕ → ℕ → ℕ → Type 0
 Read-to file b n = (rows : List Entry) × Reads file b (jobs-in (block-at file 0)) rows × (length rows ≡ n)
+
+-- what the test of block `b` told, said of the sheet of block 0
+module _ (file : List ℕ) (σ : Sheet) (b : ℕ) (r : Bool) (e : σ ≡ jobs-in (block-at file 0)) (told : Is r (Rows-block σ (total file) b (before file b) (block-at file b))) where
+  abbrev Good-block : Sheet → Type 0
+  Good-block τ = Rows-block τ (total file) b (before file b) (block-at file b)
+
+  pub block-good : r ≡ true → Good-block (jobs-in (block-at file 0))
+  block-good t = subst Good-block e (told-yes told t)
+
+  pub block-bad : r ≡ false → ¬ (Good-block (jobs-in (block-at file 0)))
+  block-bad t = subst (λ (τ : Sheet). ¬ (Good-block τ)) e (told-no told t)
 
 -- rows whose last word is below have no other
 all-below : {file : List ℕ} {k : ℕ} {σ : Sheet} {rows : List Entry} (w : ℕ) → Reads file k σ rows → last-word rows < w → (j : ℕ) → j < length rows → at rows j .word ≢ w
