@@ -33,8 +33,10 @@ pub fn run() {
 /// Makes the table of the sheet at a place of `found::all()` once, for `phases`. An output that is
 /// too short leaves the writing out.
 pub fn once(place: usize, bytes: usize) -> bool {
-    let Some(sheet) = found::all().get(place).copied() else {
-        return false;
+    let all = found::all();
+    let sheet = match all.get(place) {
+        Some(sheet) => sheet,
+        None => return false,
     };
     let numbers = Lent::shared(&sheet.numbers(), Placement::EndsAtGuard);
     let work = Lent::copy_of(&vec![0; WORK_WORDS], Placement::EndsAtGuard);
@@ -55,7 +57,7 @@ fn large(jobs: usize) {
     while shares.len() < LARGE_SHEETS {
         let numbers = sheets::of_jobs(jobs, &mut random);
         let sheet = Sheet::of_numbers(&numbers).expect("good length");
-        if Live::of_sheet(&sheet, MOST_LIVE).is_some_and(|live| LARGE < live.count()) {
+        if Live::of_sheet(&sheet, MOST_LIVE).map_or(false, |live| LARGE < live.count()) {
             let times = race(vec![plain_make(&numbers), product_make(&numbers)]);
             shares.push(times[1].1 / times[0].1);
         }
@@ -96,9 +98,7 @@ fn plain_make(numbers: &[u16]) -> Runner<'_> {
 }
 
 fn row(sheet: &Found) {
-    let Ok(table) = table_of(&sheet.numbers()) else {
-        return;
-    };
+    let table = table_of(&sheet.numbers()).expect("a table");
     let file = write(&table.sheet, &table.rows);
     let word = table.rows[table.rows.len() / 2].word;
     let mut runners: Vec<Runner> = vec![
@@ -111,9 +111,7 @@ fn row(sheet: &Found) {
 
 /// The quick row beside the full one, for words early, in the middle and late in a file of 128 blocks.
 fn row_quick(sheet: &Found) {
-    let Ok(table) = table_of(&sheet.numbers()) else {
-        return;
-    };
+    let table = table_of(&sheet.numbers()).expect("a table");
     let file = write(&table.sheet, &table.rows);
     let last = table.rows.len() - 1;
     for (what, place) in [("first", 0), ("early", last / 10), ("middle", last / 2), ("late", last)]

@@ -55,15 +55,15 @@ fn process(program: &str, sheet: &Found) {
     let input = text_of(&sheet.numbers());
     let own = env::current_exe().expect("this program's path");
     let own = own.to_str().expect("a path of letters");
-    let by = |program: &'_ str, words: &'static [&'static str]| {
-        let (program, input) = (program.to_string(), input.clone());
-        Box::new(move || printed(&program, words, &input).expect("a table").len())
-    };
     let what = format!("print, {} live states, {} rows", sheet.live, sheet.rows);
     let runners: Vec<Runner> = vec![
-        ("second program", by(own, &["print"])),
-        ("tuned", by(own, &["print", "tuned"])),
-        ("product", by(program, &[])),
+        ("second program", printing(vec![own, "print"], &input)),
+        ("tuned", printing(vec![own, "print", "tuned"], &input)),
+        ("product", printing(vec![program], &input)),
     ];
     print_race(&what, runners);
+}
+
+fn printing<'a>(command: Vec<&'a str>, input: &'a [u8]) -> Box<dyn FnMut() -> usize + 'a> {
+    Box::new(move || printed(&command, input).expect("a table").len())
 }

@@ -2,6 +2,7 @@
 //! and bytes between a guard page and the lent part hold a pattern that is looked at afterwards.
 
 use crate::tally;
+use std::arch::global_asm;
 use std::ffi::c_void;
 use std::mem::{align_of, size_of, transmute};
 use std::ptr;
@@ -28,7 +29,8 @@ extern "C" {
     ) -> *mut c_void;
     fn mprotect(at: *mut c_void, bytes: usize, prot: i32) -> i32;
     fn munmap(at: *mut c_void, bytes: usize) -> i32;
-    fn signal(number: i32, handler: extern "C" fn(i32)) -> usize;
+    fn signal(number: i32, handler: unsafe extern "C" fn(i32)) -> usize;
+    fn fault(number: i32);
     fn _exit(status: i32) -> !;
 }
 
@@ -185,8 +187,13 @@ pub fn watch_for_faults() {
     }
 }
 
+// The handler that the system enters. An emulator may enter it with the stack 8 bytes off, where
+// compiled code would fault again; nothing returns from here, so the stack can be moved.
+global_asm!("fault:", "and rsp, -16", "call fault_told", "ud2");
+
 /// The product's code holds no lock and no allocation of ours, so printing is possible here.
-extern "C" fn fault(_number: i32) {
+#[no_mangle]
+extern "C" fn fault_told() {
     let place = CALLED.load(SeqCst);
     // SAFETY: not null only during `described`, which keeps the description alive.
     let case = if place.is_null() { String::new() } else { unsafe { (*place)() } };
@@ -194,4 +201,13 @@ extern "C" fn fault(_number: i32) {
     tally::close();
     // SAFETY: ends the program.
     unsafe { _exit(1) }
+}
+
+/// What a faulty call would do, to see that it is told. The program ends here.
+pub fn touch_past_the_end() {
+    watch_for_faults();
+    let lent = Lent::shared(&[0u8], Placement::EndsAtGuard);
+    let describe = || "the byte past the end is read".to_string();
+    // SAFETY: none; the fault is what is wanted.
+    described(&describe, || unsafe { lent.pointer().add(1).read_volatile() });
 }

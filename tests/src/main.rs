@@ -2,9 +2,10 @@
 //!
 //! `self` holds the second program to the sheets worked by hand, to counts at the limits and to
 //! files whose form was settled by hand. `compare` holds every call of the product to the second
-//! program; `text` does the same for the printing program, named by its path. `bench` measures the
-//! calls and, where it is named, that program. `print` is the second program's printing program, or
-//! the tuned one's. `once` makes one table, for `phases`.
+//! program; `text` does the same for the printing program, named by the command that runs it. `touch`
+//! touches memory that was not lent. `bench` measures the calls and, where it is named, the printing
+//! program. `print` is the second program's printing program, or the tuned one's. `once` makes one
+//! table, for `phases`.
 
 mod bench;
 mod bench_print;
@@ -38,7 +39,8 @@ use std::process::ExitCode;
 
 const USAGE: &str = "usage: tests self
        tests compare [--seed N] [--cases N]
-       tests text PROGRAM [--seed N] [--cases N]
+       tests text [--seed N] [--cases N] COMMAND..
+       tests touch
        tests bench [PROGRAM]
        tests print [tuned]
        tests once PLACE BYTES";
@@ -49,13 +51,14 @@ fn main() -> ExitCode {
     match words.split_first() {
         Some((&"self", [])) => own_tests(),
         Some((&"compare", rest)) => match seed_and_cases(rest) {
-            Some((seed, cases)) => compare::run(seed, cases),
-            None => return usage(),
+            Some((seed, cases, [])) => compare::run(seed, cases),
+            _ => return usage(),
         },
-        Some((&"text", [program, rest @ ..])) => match seed_and_cases(rest) {
-            Some((seed, cases)) => texts::run(program, seed, cases),
-            None => return usage(),
+        Some((&"text", rest)) => match seed_and_cases(rest) {
+            Some((seed, cases, command @ [_, ..])) => texts::run(command, seed, cases),
+            _ => return usage(),
         },
+        Some((&"touch", [])) => guarded::touch_past_the_end(),
         Some((&"bench", rest @ ([] | [_]))) => {
             bench::run();
             bench_print::steps();
@@ -93,14 +96,15 @@ fn own_tests() {
     forms::run();
 }
 
-fn seed_and_cases(words: &[&str]) -> Option<(u64, usize)> {
+/// The seed and the number of cases, and the words after them.
+fn seed_and_cases<'a>(mut words: &'a [&'a str]) -> Option<(u64, usize, &'a [&'a str])> {
     let (mut seed, mut cases) = (1, 100);
-    for pair in words.chunks(2) {
-        match pair {
-            ["--seed", number] => seed = number.parse().ok()?,
-            ["--cases", number] => cases = number.parse().ok()?,
-            _ => return None,
+    while let [option @ ("--seed" | "--cases"), number, rest @ ..] = words {
+        match *option {
+            "--seed" => seed = number.parse().ok()?,
+            _ => cases = number.parse().ok()?,
         }
+        words = rest;
     }
-    Some((seed, cases))
+    Some((seed, cases, words))
 }

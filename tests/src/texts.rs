@@ -10,27 +10,26 @@ use std::io::Write;
 use std::process::{Command, Stdio};
 use std::thread;
 
-pub fn run(program: &str, seed: u64, cases: usize) {
+pub fn run(command: &[&str], seed: u64, cases: usize) {
     let mut random = Random::new(seed + 300);
     let known: Vec<Vec<u8>> = [S1.to_vec(), S2.to_vec()].iter().map(|s| text_of(s)).collect();
-    test("prints the worked sheets", all_same(program, &known));
-    test("prints the answers worked by hand", worked_by_hand(program));
+    test("prints the worked sheets", all_same(command, &known));
+    test("prints the answers worked by hand", worked_by_hand(command));
     let limits: Vec<Vec<u8>> = found::all().iter().map(|s| text_of(&s.numbers())).collect();
-    test("prints the sheets at the limits", all_same(program, &limits));
+    test("prints the sheets at the limits", all_same(command, &limits));
     let later = found::MOST_LIVE.iter().map(|sheet| text_of(&sheet.one_tick_later())).collect();
-    test("refuses the sheets past the limits", all_same(program, &later));
-    test("refuses texts of another form", all_same(program, &other_forms()));
+    test("refuses the sheets past the limits", all_same(command, &later));
+    test("refuses texts of another form", all_same(command, &other_forms()));
     let sheets: Vec<Vec<u8>> = (0..cases).map(|_| random_text(&mut random)).collect();
-    test("prints random sheets", all_same(program, &sheets));
+    test("prints random sheets", all_same(command, &sheets));
     let changed = sheets.iter().map(|text| change(text, &mut random)).collect();
-    test("answers texts with a byte changed", all_same(program, &changed));
+    test("answers texts with a byte changed", all_same(command, &changed));
 }
 
 /// 01's example whole, and what 01 says of sheets 3, 8, 10 and 11.
-fn worked_by_hand(program: &str) -> Outcome {
+fn worked_by_hand(command: &[&str]) -> Outcome {
     let shown = |text: &str| {
-        printed(program, &[], text.as_bytes())
-            .map(|bytes| String::from_utf8_lossy(&bytes).into_owned())
+        printed(command, text.as_bytes()).map(|bytes| String::from_utf8_lossy(&bytes).into_owned())
     };
     let example = "jobs 1 states 5\n0 0 0 - none\n0 0 1 1 held\n0 0 2 - open\n0 0 3 - open\n\
                    1 1 2 - none\n";
@@ -52,12 +51,12 @@ fn worked_by_hand(program: &str) -> Outcome {
     }
 }
 
-fn all_same(program: &str, texts: &Vec<Vec<u8>>) -> Outcome {
-    texts.iter().try_for_each(|text| same_text(program, text))
+fn all_same(command: &[&str], texts: &Vec<Vec<u8>>) -> Outcome {
+    texts.iter().try_for_each(|text| same_text(command, text))
 }
 
-fn same_text(program: &str, text: &[u8]) -> Outcome {
-    let found = printed(program, &[], text)?;
+fn same_text(command: &[&str], text: &[u8]) -> Outcome {
+    let found = printed(command, text)?;
     let wanted = print(text);
     if found == wanted {
         return Ok(());
@@ -66,13 +65,14 @@ fn same_text(program: &str, text: &[u8]) -> Outcome {
     Err(format!("{:?} prints {:?}, not {:?}", shown(text), shown(&found), shown(&wanted)))
 }
 
-pub fn printed(program: &str, words: &[&str], text: &[u8]) -> Result<Vec<u8>, String> {
-    let mut child = Command::new(program)
-        .args(words)
+/// What a command, a program and its words, prints for a text.
+pub fn printed(command: &[&str], text: &[u8]) -> Result<Vec<u8>, String> {
+    let mut child = Command::new(command[0])
+        .args(&command[1..])
         .stdin(Stdio::piped())
         .stdout(Stdio::piped())
         .spawn()
-        .map_err(|why| format!("{} does not run: {}", program, why))?;
+        .map_err(|why| format!("{} does not run: {}", command[0], why))?;
     let input = child.stdin.take();
     let bytes = text.to_vec();
     // Beside the reading of what it prints, and with no word if the program stops reading early.
@@ -80,8 +80,12 @@ pub fn printed(program: &str, words: &[&str], text: &[u8]) -> Result<Vec<u8>, St
     let output = child.wait_with_output().map_err(|why| why.to_string())?;
     drop(writer.join());
     match output.status.code() {
-        Some(_) => Ok(output.stdout),
-        None => Err(format!("{:?} ends the program by a signal", String::from_utf8_lossy(text))),
+        Some(0) => Ok(output.stdout),
+        _ => Err(format!(
+            "{:?} ends the program with {}",
+            String::from_utf8_lossy(text),
+            output.status
+        )),
     }
 }
 
