@@ -30,7 +30,7 @@ extern "C" {
     fn mprotect(at: *mut c_void, bytes: usize, prot: i32) -> i32;
     fn munmap(at: *mut c_void, bytes: usize) -> i32;
     fn signal(number: i32, handler: unsafe extern "C" fn(i32)) -> usize;
-    fn fault(number: i32);
+    fn fault_entry(number: i32);
     fn _exit(status: i32) -> !;
 }
 
@@ -182,14 +182,14 @@ pub fn described<R>(describe: &dyn Fn() -> String, call: impl FnOnce() -> R) -> 
 pub fn watch_for_faults() {
     // SAFETY: the handler does not return.
     unsafe {
-        signal(SIGSEGV, fault);
-        signal(SIGBUS, fault);
+        signal(SIGSEGV, fault_entry);
+        signal(SIGBUS, fault_entry);
     }
 }
 
 // The handler that the system enters. An emulator may enter it with the stack 8 bytes off, where
 // compiled code would fault again; nothing returns from here, so the stack can be moved.
-global_asm!("fault:", "and rsp, -16", "call fault_told", "ud2");
+global_asm!(".globl fault_entry", "fault_entry:", "and rsp, -16", "call fault_told", "ud2");
 
 /// The product's code holds no lock and no allocation of ours, so printing is possible here.
 #[no_mangle]
