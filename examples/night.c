@@ -24,10 +24,6 @@ static const char *const names[JOBS] = {"spades", "hearts", "backs", "jokers"};
 /* The ticks that each job runs: on the first night hearts end early, on the second each job takes its most. */
 static const uint8_t nights[2][JOBS] = {{4, 1, 2, 1}, {5, 3, 4, 2}};
 
-/* An event byte is 0 for the tick, else the job's number added to one of these. */
-enum { TICK = 0, ARRIVAL = 0, START = 16, ENDING = 32 };
-enum { TO_COME, READY, RUNNING, FINISHED };
-
 /* The room that make works in and the table that it writes are the host's. */
 static uint32_t work[SMIRRADO_WORK_WORDS];
 static uint8_t table[SMIRRADO_FILE_BYTES];
@@ -39,18 +35,10 @@ static void stop(const char *call, uint32_t number, uint32_t detail)
     exit(EXIT_FAILURE);
 }
 
-/* The state word of a desk: now, elapsed, then two bits a status with job 1 lowest. */
-static uint32_t word_of(const struct smirrado_desk *desk)
-{
-    uint32_t word = (uint32_t)desk->now << 24 | (uint32_t)desk->elapsed << 16;
-    for (int i = 0; i < SMIRRADO_JOBS; i++)
-        word |= (uint32_t)desk->statuses[i] << 2 * i;
-    return word;
-}
-
+/* The quick row: the table is make's own and stays in this program, so nothing in it has to be judged again. */
 static struct smirrado_row_reply row_of(const struct smirrado_desk *desk)
 {
-    struct smirrado_row_reply row = smirrado_row(table, table_bytes, word_of(desk));
+    struct smirrado_row_reply row = smirrado_row_quick(table, table_bytes, smirrado_word_of(desk));
     if (row.number != SMIRRADO_DONE)
         stop("row", row.number, row.detail);
     return row;
@@ -58,15 +46,15 @@ static struct smirrado_row_reply row_of(const struct smirrado_desk *desk)
 
 static int leeway_of(const struct smirrado_desk *desk, int job)
 {
-    struct smirrado_leeway_reply reply = smirrado_leeway(table, table_bytes, word_of(desk), (uint32_t)job);
+    struct smirrado_leeway_reply reply = smirrado_leeway(table, table_bytes, smirrado_word_of(desk), (uint32_t)job);
     if (reply.number != SMIRRADO_DONE)
         stop("leeway", reply.number, reply.detail);
     return (int)reply.leeway;
 }
 
-static void step(struct smirrado_desk *desk, int event)
+static void step(struct smirrado_desk *desk, uint8_t event)
 {
-    struct smirrado_step_reply reply = smirrado_step(table, table_bytes, desk, (uint8_t)event);
+    struct smirrado_step_reply reply = smirrado_step(table, table_bytes, desk, event);
     if (reply.number != SMIRRADO_DONE)
         stop("step", reply.number, reply.detail);
 }
@@ -86,16 +74,20 @@ static int job_with(const struct smirrado_desk *desk, int wanted)
     return 0;
 }
 
-/* What nobody can stop, as an event byte: artwork due in at this tick, or a job that has run its time; 0 for nothing. */
-static int happens(const struct smirrado_desk *desk, const uint8_t *runs_for)
+/* The job whose artwork is due in at this tick, or 0. */
+static int arriving(const struct smirrado_desk *desk)
 {
-    int running = job_with(desk, RUNNING);
     for (int job = 1; job <= JOBS; job++)
-        if (status(desk, job) == TO_COME && number_of(job, ARRIVAL_TICK) == desk->now)
-            return ARRIVAL + job;
-    if (running != 0 && desk->elapsed == runs_for[running - 1])
-        return ENDING + running;
+        if (status(desk, job) == SMIRRADO_STATUS_NOT_ARRIVED && number_of(job, ARRIVAL_TICK) == desk->now)
+            return job;
     return 0;
+}
+
+/* The job that has run its time, or 0. */
+static int ending(const struct smirrado_desk *desk, const uint8_t *runs_for)
+{
+    int running = job_with(desk, SMIRRADO_STATUS_RUNNING);
+    return running != 0 && desk->elapsed == runs_for[running - 1] ? running : 0;
 }
 
 /* Of the starts that the row allows, the job that can wait least; 0 where it allows none. */
@@ -108,44 +100,49 @@ static int chosen(const struct smirrado_desk *desk, uint8_t starts)
     return best;
 }
 
-static void say_happened(const struct smirrado_desk *desk, int event)
-{
-    if (event > ENDING)
-        printf("%2d  %s end after %d of at most %d ticks\n", desk->now, name(event - ENDING), desk->elapsed,
-               number_of(event - ENDING, MOST));
-    else
-        printf("%2d  %s come in\n", desk->now, name(event - ARRIVAL));
-}
-
 /* The ready jobs of a free RIP, and whether the RIP or the clock is held. */
 static void say_ready(const struct smirrado_desk *desk, struct smirrado_row_reply row)
 {
     for (int job = 1; job <= JOBS; job++)
-        if (status(desk, job) == READY)
+        if (status(desk, job) == SMIRRADO_STATUS_READY)
             printf("%2d  %s %s, leeway %d\n", desk->now, name(job), may_start(row.starts, job) ? "may start" : "must wait",
                    leeway_of(desk, job));
-    if (row.starts == 0 && job_with(desk, READY) != 0)
+    if (row.starts == 0 && job_with(desk, SMIRRADO_STATUS_READY) != 0)
         printf("%2d  the RIP is held idle\n", desk->now);
-    if (row.tick == 2)
+    if (row.tick == SMIRRADO_TICK_HELD)
         printf("%2d  the clock is held until a start is taken\n", desk->now);
 }
 
 /* One event of the night: what can't be stopped first, then an allowed start, then the tick. */
 static void go_on(struct smirrado_desk *desk, const uint8_t *runs_for)
 {
-    int event = happens(desk, runs_for);
-    if (event != 0) {
-        say_happened(desk, event);
-        step(desk, event);
+    int in = arriving(desk), out = ending(desk, runs_for);
+    if (in != 0) {
+        printf("%2d  %s come in\n", desk->now, name(in));
+        step(desk, SMIRRADO_ARRIVAL(in));
+        return;
+    }
+    if (out != 0) {
+        printf("%2d  %s end after %d of at most %d ticks\n", desk->now, name(out), desk->elapsed, number_of(out, MOST));
+        step(desk, SMIRRADO_ENDING(out));
         return;
     }
     struct smirrado_row_reply row = row_of(desk);
-    if (job_with(desk, RUNNING) == 0)
+    if (job_with(desk, SMIRRADO_STATUS_RUNNING) == 0)
         say_ready(desk, row);
     int job = chosen(desk, row.starts);
     if (job != 0)
         printf("%2d  %s start\n", desk->now, name(job));
-    step(desk, job != 0 ? START + job : TICK);
+    step(desk, job != 0 ? SMIRRADO_START(job) : SMIRRADO_TICK);
+}
+
+/* The finished state is one: every job is done. */
+static int finished(const struct smirrado_desk *desk)
+{
+    for (int job = 1; job <= JOBS; job++)
+        if (status(desk, job) != SMIRRADO_STATUS_DONE)
+            return 0;
+    return 1;
 }
 
 int main(void)
@@ -160,7 +157,7 @@ int main(void)
     for (int i = 0; i < 2; i++) {
         struct smirrado_desk desk = {0};
         printf("\nnight %d\n", i + 1);
-        while (job_with(&desk, TO_COME) != 0 || job_with(&desk, READY) != 0 || job_with(&desk, RUNNING) != 0)
+        while (!finished(&desk))
             go_on(&desk, nights[i]);
         puts("all are out");
     }

@@ -82,18 +82,14 @@ static int judges(const struct sheet *sheet)
 static int steps(const uint8_t *file, size_t length, uint32_t word, int event, uint32_t *number)
 {
     struct smirrado_desk *desk = block(sizeof *desk), before;
-    desk->now = (uint8_t)(word >> 24);
-    desk->elapsed = (uint8_t)(word >> 16);
-    for (int i = 0; i < SMIRRADO_JOBS; i++)
-        desk->statuses[i] = word >> 2 * i & 3;
-    before = *desk;
+    *desk = before = smirrado_desk_of(word);
     *number = smirrado_step(file, length, desk, (uint8_t)event).number;
     int same = memcmp(desk, &before, sizeof before) == 0;
     free(desk);
     return *number == 0 || same;
 }
 
-/* Every so many rows: the row found by its word, leeway of each job number, each event byte. */
+/* Every so many rows: the row found by its word, which is its desk's too, leeway of each job number, each event byte. */
 static int reads(const uint8_t *file, size_t length, uint32_t stride)
 {
     struct smirrado_listing_reply listing = smirrado_listing(file, length, 1);
@@ -103,6 +99,10 @@ static int reads(const uint8_t *file, size_t length, uint32_t stride)
         listing = smirrado_listing(file, length, at);
         struct smirrado_row_reply row = smirrado_row(file, length, listing.word);
         good &= row.number == 0 && row.starts == listing.starts && row.tick == listing.tick;
+        struct smirrado_desk desk = smirrado_desk_of(listing.word);
+        good &= smirrado_word_of(&desk) == listing.word;
+        desk.statuses[at % SMIRRADO_JOBS] |= 4; /* no status: the desk is no row */
+        good &= smirrado_row(file, length, smirrado_word_of(&desk)).number == SMIRRADO_NO_ROW;
         struct smirrado_row_reply quick = smirrado_row_quick(file, length, listing.word);
         good &= quick.number == 0 && quick.starts == row.starts && quick.tick == row.tick;
         for (uint32_t job = 0; job <= 9; job++) {

@@ -8,7 +8,7 @@ use crate::random::Random;
 use crate::second::calls::table_of;
 use crate::second::file::{write, MOST_BLOCKS, SLOTS};
 use crate::second::form::{read, Table};
-use crate::tally::{same, test, Outcome};
+use crate::tally::{each, same, test, Outcome};
 use crate::tuned_read;
 use crate::worked::{S1, S2};
 
@@ -20,6 +20,7 @@ pub fn run() {
     for sheet in &BLOCK_EDGES[..5] {
         test(&format!("damaged files: {}", sheet.what), damages(&sheet.numbers()));
     }
+    test("each kind of damage is done to some table", every_damage());
     test("made tables are read back", read_back());
     test("foreign tables are read back, 7,874 rows at most", foreign_files());
     test("every changed bit is found", bits());
@@ -40,7 +41,7 @@ fn tuned_agrees() -> Outcome {
     for numbers in sheets {
         let table = made(&numbers)?;
         let file = write(&table.sheet, &table.rows);
-        damage::all(&table).iter().try_for_each(|damaged| both_say(&damaged.file))?;
+        each(&damage::all(&table), |damaged| both_say(&damaged.file))?;
         for _ in 0..400 {
             both_say(&damage::bit_flipped(&file, true, &mut random).file)?;
         }
@@ -83,7 +84,30 @@ fn rows_among() -> Outcome {
 }
 
 fn damages(numbers: &[u16]) -> Outcome {
-    damage::all(&made(numbers)?).iter().try_for_each(as_wanted)
+    each(&damage::all(&made(numbers)?), as_wanted)
+}
+
+/// Damage that a table may have no place for. Over all tables none is left out.
+const HAS_A_PLACE: [&str; 10] = [
+    "unused slot",
+    "row's zero bytes",
+    "two rows swapped",
+    "a row twice",
+    "last row before once more",
+    "a row from before",
+    "rows swapped with the block before",
+    "swapped with the block before, numbers",
+    "a start before an arrival",
+    "cut after block 1 and counted",
+];
+
+fn every_damage() -> Outcome {
+    let mut rules = Vec::new();
+    let edges: Vec<Vec<u16>> = BLOCK_EDGES[..4].iter().map(|sheet| sheet.numbers()).collect();
+    for numbers in [S1.to_vec(), S2.to_vec()].iter().chain(&edges) {
+        rules.extend(damage::all(&made(numbers)?).into_iter().map(|damaged| damaged.rule));
+    }
+    each(&HAS_A_PLACE, |what| same(what, rules.iter().any(|rule| rule.contains(what)), true))
 }
 
 fn as_wanted(damaged: &Damaged) -> Outcome {
@@ -125,10 +149,12 @@ fn any_bytes() -> Outcome {
     let one = foreign::table(&foreign::wide_sheet(), 3 * SLOTS, &mut random);
     let other = foreign::table(&foreign::wide_sheet(), 3 * SLOTS, &mut random);
     files.extend(damage::mixed(&write(&one.sheet, &one.rows), &write(&other.sheet, &other.rows)));
-    for damaged in &files {
-        if let Wanted::LowestBad(block) = form_of(&damaged.file) {
-            same(&damaged.rule, block < damage::blocks_of(&damaged.file), true)?;
+    let bad = |damaged: &Damaged| form_of(&damaged.file) != Wanted::Good;
+    files.retain(bad);
+    each(&files, |damaged| match form_of(&damaged.file) {
+        Wanted::LowestBad(block) => {
+            same(&damaged.rule, block < damage::blocks_of(&damaged.file), true)
         }
-    }
-    Ok(())
+        _ => Ok(()),
+    })
 }

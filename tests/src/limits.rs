@@ -8,7 +8,7 @@ use crate::second::file::write;
 use crate::second::sheet::Sheet;
 use crate::second::table::Live;
 use crate::sheets;
-use crate::tally::{same, test, Outcome};
+use crate::tally::{each, same, test, Outcome};
 use crate::tuned;
 
 /// Written once more, so that a wrong constant of the second program is seen.
@@ -51,14 +51,13 @@ fn one_more(sheet: &Found) -> Outcome {
 }
 
 fn bad_sheets() -> Outcome {
-    for sheet in sheets::bad() {
+    each(&sheets::bad(), |sheet| {
         let mut work = [1; WORK_WORDS];
         let reply = make(&sheet.numbers, &mut work, &mut [1; 65_536]);
         let wanted = MakeReply { number: sheet.number, detail: sheet.detail, length: 0 };
         same(&sheet.what, reply, wanted)?;
-        same("a work word", work.iter().find(|&&word| word != 1), None)?;
-    }
-    Ok(())
+        same("a work word", work.iter().find(|&&word| word != 1), None)
+    })
 }
 
 /// So that what is measured against is a maker too.

@@ -2,11 +2,13 @@
 //!
 //! `self` holds the second program to the sheets worked by hand, to counts at the limits and to
 //! files whose form was settled by hand. `compare` holds every call of the product to the second
-//! program; `text` does the same for the printing program, named by the command that runs it. `touch`
+//! program; `text` does the same for the printing program, named by the command that runs it. `believed`
+//! holds the lists of docs/PROMISES.md to the definitions that the contracts rest on. `touch`
 //! touches memory that was not lent. `bench` measures the calls and, where it is named, the printing
 //! program. `print` is the second program's printing program, or the tuned one's. `once` makes one
 //! table, for `phases`.
 
+mod believed;
 mod bench;
 mod bench_print;
 mod buffers;
@@ -40,6 +42,7 @@ use std::process::ExitCode;
 const USAGE: &str = "usage: tests self
        tests compare [--seed N] [--cases N]
        tests text [--seed N] [--cases N] COMMAND..
+       tests believed [--names]
        tests touch
        tests bench [PROGRAM]
        tests print [tuned]
@@ -58,6 +61,10 @@ fn main() -> ExitCode {
             Some((seed, cases, command @ [_, ..])) => texts::run(command, seed, cases),
             _ => return usage(),
         },
+        Some((&"believed", rest @ ([] | ["--names"]))) => {
+            let right = believed::run(!rest.is_empty());
+            return if right { ExitCode::SUCCESS } else { ExitCode::FAILURE };
+        }
         Some((&"touch", [])) => guarded::touch_past_the_end(),
         Some((&"bench", rest @ ([] | [_]))) => {
             bench::run();

@@ -23,10 +23,18 @@ pub fn test(name: &str, outcome: Outcome) {
     }
 }
 
-/// Prints the last line; true if nothing failed.
+/// Prints the last line; true if something passed and nothing failed.
 pub fn close() -> bool {
     println!("{} passed, {} failed", PASSED.load(SeqCst), FAILED.load(SeqCst));
-    FAILED.load(SeqCst) == 0
+    PASSED.load(SeqCst) > 0 && FAILED.load(SeqCst) == 0
+}
+
+/// Every case in its turn. No case at all is a failure: nothing was tried.
+pub fn each<T>(cases: &[T], test: impl Fn(&T) -> Outcome) -> Outcome {
+    if cases.is_empty() {
+        return Err("no case".to_string());
+    }
+    cases.iter().try_for_each(test)
 }
 
 /// Two values that ought to be equal.

@@ -4,9 +4,12 @@ use crate::found;
 use crate::random::Random;
 use crate::second::text::print;
 use crate::sheets::{self, KINDS};
-use crate::tally::{same, test, Outcome};
+use crate::tally::{each, same, test, Outcome};
 use crate::worked::{S1, S2};
-use std::io::Write;
+use std::fs::File;
+use std::io::{self, Write};
+use std::os::unix::io::OwnedFd;
+use std::os::unix::net::UnixStream;
 use std::process::{Command, Stdio};
 use std::thread;
 
@@ -17,12 +20,15 @@ pub fn run(command: &[&str], seed: u64, cases: usize) {
     test("prints the answers worked by hand", worked_by_hand(command));
     let limits: Vec<Vec<u8>> = found::all().iter().map(|s| text_of(&s.numbers())).collect();
     test("prints the sheets at the limits", all_same(command, &limits));
-    let later = found::MOST_LIVE.iter().map(|sheet| text_of(&sheet.one_tick_later())).collect();
+    let later: Vec<Vec<u8>> =
+        found::MOST_LIVE.iter().map(|sheet| text_of(&sheet.one_tick_later())).collect();
     test("refuses the sheets past the limits", all_same(command, &later));
     test("refuses texts of another form", all_same(command, &other_forms()));
+    test("refuses an input that can't be read", not_read(command, directory()));
+    test("refuses a sheet after which a read fails", not_read(command, broken_off(b"0 1 1 1\n")));
     let sheets: Vec<Vec<u8>> = (0..cases).map(|_| random_text(&mut random)).collect();
     test("prints random sheets", all_same(command, &sheets));
-    let changed = sheets.iter().map(|text| change(text, &mut random)).collect();
+    let changed: Vec<Vec<u8>> = sheets.iter().map(|text| change(text, &mut random)).collect();
     test("answers texts with a byte changed", all_same(command, &changed));
 }
 
@@ -51,8 +57,8 @@ fn worked_by_hand(command: &[&str]) -> Outcome {
     }
 }
 
-fn all_same(command: &[&str], texts: &Vec<Vec<u8>>) -> Outcome {
-    texts.iter().try_for_each(|text| same_text(command, text))
+fn all_same(command: &[&str], texts: &[Vec<u8>]) -> Outcome {
+    each(texts, |text| same_text(command, text))
 }
 
 fn same_text(command: &[&str], text: &[u8]) -> Outcome {
@@ -87,6 +93,31 @@ pub fn printed(command: &[&str], text: &[u8]) -> Result<Vec<u8>, String> {
             output.status
         )),
     }
+}
+
+/// An input of which no byte can be read.
+fn directory() -> io::Result<Stdio> {
+    File::open("/").map(Stdio::from)
+}
+
+/// An input that fails behind these bytes: its other end is gone, and has left a byte unread.
+fn broken_off(bytes: &[u8]) -> io::Result<Stdio> {
+    let (mut ours, mut read_from) = UnixStream::pair()?;
+    read_from.write_all(b"?")?;
+    ours.write_all(bytes)?;
+    drop(ours);
+    Ok(Stdio::from(OwnedFd::from(read_from)))
+}
+
+/// No table is printed for what came before, and the reason is told.
+fn not_read(command: &[&str], input: io::Result<Stdio>) -> Outcome {
+    let ran =
+        input.and_then(|input| Command::new(command[0]).args(&command[1..]).stdin(input).output());
+    let output = ran.map_err(|why| why.to_string())?;
+    let shown = |bytes: &[u8]| String::from_utf8_lossy(bytes).into_owned();
+    same("the text", shown(&output.stdout), "refused 1 0\n".to_string())?;
+    let told = "print_table: standard input can't be read\n";
+    same("what is told", shown(&output.stderr), told.to_string())
 }
 
 /// A line a job, each ended by byte 10.

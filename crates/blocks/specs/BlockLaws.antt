@@ -7,12 +7,13 @@ use mathlib.Core.List.{List, [], _∷_, _++_, map, append-assoc}
 use lib.ListN.{length, getD, take, replicate, length-append, length-replicate, length-map, length-take}
 use lib.Seq.{getD-take, take-at}
 use Rattle.blocks.specs.Sizes.{block-bytes, body-bytes, header-bytes}
-use Rattle.blocks.specs.Bytes.{le32, u16-at, check-of}
-use Rattle.blocks.specs.BytesLaws.{Each-byte, Stands, stands-first, stands-rest, stands-both, stands-self, stands-whole, stands-zeros, zeros-stand, u32-of-le32, le32-of-u32}
+use Rattle.blocks.specs.Bytes.{le32, u16-at, check-of, Each-byte}
+use Rattle.blocks.specs.BytesLaws.{Stands, stands-first, stands-rest, stands-both, stands-self, stands-whole, stands-zeros, zeros-stand, u32-of-le32, le32-of-u32}
 use Rattle.blocks.specs.File.{joined, header, body-of, sealed, block-of}
 use Rattle.blocks.specs.Fields.{Lettered, Framed}
 
-header-stands : (n used k total : ℕ) (s : List ℕ) → Each-byte s → Lettered s → getD s 2 0 ≡ n → getD s 3 0 ≡ used → u16-at s 4 ≡ k → u16-at s 6 ≡ total → Stands s 0 (header n used k total)
+header-stands : (n used k total : ℕ) (s : List ℕ) → Each-byte s → Lettered s → getD s 2 0 ≡ n → getD s 3 0 ≡ used
+    → u16-at s 4 ≡ k → u16-at s 6 ≡ total → Stands s 0 (header n used k total)
 header-stands n used k total s small l a b c d = byte
   where
     byte : Stands s 0 (header n used k total)

@@ -1,7 +1,11 @@
 -- "numbers little-endian", and the check (01, "Table file").
-use Prim.Native.Nat.{ℕ, suc, _+_, _*_, _/_, _%_}
+use Prim.Native.Nat.{ℕ, suc, _+_, _*_, _/_, _%_, _<_}
 use mathlib.Core.List.{List, [], _∷_}
 use lib.ListN.{getD}
+
+-- bytes are below 256
+abbrev pub Each-byte : List ℕ → Type 0
+Each-byte s = (i : ℕ) → getD s i 0 < 256
 
 -- a number in two and in four bytes, the low byte first
 abbrev pub le16 : ℕ → List ℕ

@@ -5,13 +5,9 @@ use native.Mathlib.Decide.{decLt}
 use native.Mathlib.Nat.{add-assoc, zero-add}
 use mathlib.Core.Path.{_≡_, sym, ap, _∙_}
 use mathlib.Core.List.{List, [], _∷_, _++_}
-use lib.ListN.{length, getD, set, take, drop, replicate, length-take, length-append, length-replicate, getD-replicate, List·getD-append}
-use lib.Seq.{ext-getD, getD-append-add, getD-take, getD-drop, paste, paste-suc, length-paste-head}
-use Rattle.blocks.specs.Bytes.{le16, le32, u16-at, u32-at}
-
--- no number is more than a byte
-abbrev pub Each-byte : List ℕ → Type 0
-Each-byte s = (i : ℕ) → getD s i 0 < 256
+use lib.ListN.{length, getD, set, take, replicate, length-append, length-replicate, getD-replicate, List·getD-append}
+use lib.Seq.{ext-getD, getD-append-add, paste, paste-suc}
+use Rattle.blocks.specs.Bytes.{Each-byte, le16, le32, u16-at, u32-at}
 
 pub take-bytes : (n : ℕ) (s : List ℕ) → Each-byte s → Each-byte (take n s)
 take-bytes zero s h i = omega arith
@@ -87,39 +83,6 @@ module _ (s : List ℕ) (p : ℕ) where
   le32-of-u32 small (suc (suc zero)) h = omega (arith, small p, small (p + 1), small (p + 2), small (p + 3))
   le32-of-u32 small (suc (suc (suc zero))) h = omega (arith, small p, small (p + 1), small (p + 2), small (p + 3))
   le32-of-u32 small (suc (suc (suc (suc j)))) h = absurd (omega arith)
-
--- Bytes put into a list: they stand, and the rest is left -------------------------------------------------------------
-
-module _ (s : List ℕ) (p : ℕ) (l : List ℕ) (fits : p + length l ≤ length s) where
-  pub pasted : Stands (paste s p l (length l)) p l
-  pasted j i =
-      let f : List ℕ = take p s ++ take (length l) l in
-      let n : length f ≡ p + length l = length-paste-head s p l (length l) (omega arith) (omega arith) in
-      List·getD-append f (drop (p + length l) s) 0 (p + j) (omega arith)
-      ∙ (getD-second (take p s) (take (length l) l) p j 0 (omega (arith, length-take p s)) ∙ getD-take (length l) l j 0 i)
-
-  pub pasted-before : (j : ℕ) → j < p → getD (paste s p l (length l)) j 0 ≡ getD s j 0
-  pasted-before j h =
-      let f : List ℕ = take p s ++ take (length l) l in
-      let n : length f ≡ p + length l = length-paste-head s p l (length l) (omega arith) (omega arith) in
-      List·getD-append f (drop (p + length l) s) 0 j (omega arith)
-      ∙ (List·getD-append (take p s) (take (length l) l) 0 j (omega (arith, length-take p s)) ∙ getD-take p s j 0 h)
-
-  pub pasted-after : (j : ℕ) → p + length l ≤ j → getD (paste s p l (length l)) j 0 ≡ getD s j 0
-  pasted-after j h =
-      let f : List ℕ = take p s ++ take (length l) l in
-      let n : length f ≡ p + length l = length-paste-head s p l (length l) (omega arith) (omega arith) in
-      let e : j ≡ p + length l + (j - (p + length l)) = omega arith in
-      ap (λ (m : ℕ). getD (f ++ drop (p + length l) s) m 0) e
-      ∙ (getD-second f (drop (p + length l) s) (p + length l) (j - (p + length l)) 0 n
-      ∙ (getD-drop (p + length l) s (j - (p + length l)) 0 ∙ ap (λ (m : ℕ). getD s m 0) (sym e)))
-
--- what was put is read
-pub read-put16 : (s : List ℕ) (p x : ℕ) → p + 2 ≤ length s → u16-at (paste s p (le16 x) 2) p ≡ x
-read-put16 s p x h = u16-of-le16 (paste s p (le16 x) 2) p x (pasted s p (le16 x) h)
-
-pub read-put32 : (s : List ℕ) (p x : ℕ) → p + 4 ≤ length s → u32-at (paste s p (le32 x) 4) p ≡ x
-read-put32 s p x h = u32-of-le32 (paste s p (le32 x) 4) p x (pasted s p (le32 x) h)
 
 -- one zero more
 pub zero-more : (s : List ℕ) (at end p : ℕ) → at ≤ p → p < end → end ≤ length s

@@ -7,8 +7,7 @@ use mathlib.Core.List.{List, [], _∷_}
 use lib.ListN.{length, getD, take, drop, length-take, drop-of-length-le}
 use lib.Seq.{drop-cons, getD-take}
 use Rattle.blocks.specs.Sizes.{block-bytes, body-bytes, most-check}
-use Rattle.blocks.specs.Bytes.{weighted, check-of}
-use Rattle.blocks.specs.BytesLaws.{Each-byte}
+use Rattle.blocks.specs.Bytes.{weighted, check-of, Each-byte}
 
 -- the bytes, each counted once
 unfoldable pub sum-of : List ℕ → ℕ

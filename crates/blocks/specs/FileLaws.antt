@@ -4,19 +4,20 @@ use native.Mathlib.Omega.{arith}
 use native.Mathlib.Numerals.{add-one}
 use mathlib.Core.Path.{_≡_, refl, sym, ap, _∙_}
 use mathlib.Core.List.{List, [], _++_, map, append-assoc}
-use lib.ListN.{length, getD, take, drop, length-append, length-map, length-take}
+use lib.ListN.{length, getD, take, drop, length-append, length-take}
 use lib.Seq.{take-at, drop-at, drop-drop}
 use Rattle.sheet.specs.Model.{Sheet}
 use Rattle.sheet.specs.Table.{Entry}
 use Rattle.blocks.specs.Sizes.{block-bytes, block-slots, slot-bytes, most-jobs}
 use Rattle.blocks.specs.File.{block-of, job-slot, row-slot, block-for, written, blocks-of, bytes-of}
 use Rattle.sheet.specs.Arrays.{job-of, sheet-of}
+use Rattle.sheet.specs.ArraysLaws.{length-sheet}
 use Rattle.blocks.specs.Held.{entry-of, tab, entries-from, entries-of}
 use Rattle.blocks.specs.TabLaws.{take-is-tab, part-tab, map-tab}
 use Rattle.blocks.specs.BlockLaws.{block-length}
 
 module _ (t : ℕ) (σ : Sheet) (rows : List Entry) (few : length σ ≤ block-slots) where
-  length-block : (b : ℕ) → length (block-for t σ rows b) ≡ block-bytes
+  pub length-block : (b : ℕ) → length (block-for t σ rows b) ≡ block-bytes
   length-block zero = block-length slot-bytes job-slot (λ x. refl) (length σ) 0 t σ (omega arith)
   length-block (suc b) =
       let part = take block-slots (drop (block-slots * b) rows) in
@@ -52,11 +53,8 @@ module _ (js : List (List ℕ)) (n : ℕ) (l : length js ≡ most-jobs) (h : n �
   pub sheet-tab : sheet-of js n ≡ tab n (λ s. job-of (getD js s []))
   sheet-tab = rw (take-is-tab n js [] (omega arith)) (map-tab job-of n (λ s. getD js s []))
 
-  pub length-sheet : length (sheet-of js n) ≡ n
-  length-sheet = length-map (take n js) job-of ∙ omega (arith, length-take n js)
-
   pub jobs-block : (t : ℕ) (rows : List Entry) (block : List ℕ) → block ≡ block-of n 0 t (map job-slot (sheet-of js n)) → block ≡ block-for t (sheet-of js n) rows 0
-  jobs-block t rows block e = rw length-sheet e
+  jobs-block t rows block e = rw (length-sheet js n (omega arith)) e
 
 -- block b has the rows from 62 × (b − 1) on
 pub rows-block : (n t b count used : ℕ) (words marks : List ℕ) (σ : Sheet) (block : List ℕ) → 1 ≤ b → length σ ≡ n → used ≡ min block-slots (count - block-slots * (b - 1))

@@ -4,23 +4,16 @@ use native.Mathlib.Omega.{arith}
 use mathlib.Core.Path.{_≡_, refl, sym, subst}
 use mathlib.Core.List.{List, [], _∷_, _++_, map}
 use lib.ListN.{length, getD}
-use Rattle.sheet.specs.Model.{Job}
-use Rattle.sheet.specs.Table.{Entry, at}
+use Rattle.sheet.specs.Model.{Job, no-job}
+use Rattle.sheet.specs.Table.{Entry, no-entry, at}
 use Rattle.blocks.specs.Sizes.{slot-bytes, block-slots}
-use Rattle.blocks.specs.Bytes.{le16, le32, u32-at}
-use Rattle.blocks.specs.BytesLaws.{Each-byte, Stands, stands-first, stands-rest, stands-both, u16-of-le16, u32-of-le32, le16-of-u16, le32-of-u32}
+use Rattle.blocks.specs.Bytes.{le16, le32, u32-at, Each-byte}
+use Rattle.blocks.specs.BytesLaws.{Stands, stands-first, stands-rest, stands-both, u16-of-le16, u32-of-le32, le16-of-u16, le32-of-u32}
 use Rattle.blocks.specs.File.{job-slot, row-slot, block-of}
 use Rattle.blocks.specs.Fields.{Framed, slot-at, job-from, row-from}
 use Rattle.blocks.specs.Held.{tab}
 use Rattle.blocks.specs.TabLaws.{length-tab, getD-tab}
 use Rattle.blocks.specs.BlockLaws.{slot-of, made}
-
--- what stands past the last
-abbrev pub no-job : Job
-no-job = record { arrives = 0; fewest = 0; most = 0; due = 0 }
-
-abbrev pub no-entry : Entry
-no-entry = record { word = 0; starts = 0; tick = 0 }
 
 module _ (s : List ℕ) (p : ℕ) where
   four : p + 2 + 2 ≡ p + 4

@@ -7,13 +7,14 @@ use mathlib.Core.Bool.{Bool, true, false}
 use mathlib.Core.List.{List}
 use lib.ListN.{length}
 use Rattle.plant.specs.Plant.{tick, arrival, start, ending}
-use Rattle.plant.specs.Search.{In}
+use Rattle.plant.specs.Range.{In}
 use Rattle.plant.specs.Marks.{Has, Byte}
 use Rattle.plant.specs.Reflect.{Is, is-map, is-le, is-eq, is-and, is-not}
-use Rattle.sheet.specs.Model.{Sheet, State, Possible, Good, word}
-use Rattle.sheet.specs.ModelTests.{named, possible, is-possible}
+use Rattle.sheet.specs.Model.{Sheet, State, Possible, Good, word, state-of}
+use Rattle.sheet.specs.ModelTestsRight.{is-possible}
+use Rattle.sheet.specs.ModelTests.{named, possible}
 use Rattle.sheet.specs.Table.{Entry, at}
-use Rattle.sheet.specs.Form.{state-of, In-order, Finished-state, Under-way, Fits, Good-rows}
+use Rattle.sheet.specs.Form.{In-order, Finished-state, Under-way, Fits, Good-rows}
 use Rattle.state.specs.Clocks.{Known, model}
 use Rattle.state.specs.EventByte.{kind-of}
 use Rattle.look.specs.LateLaws.{tick-fits}
@@ -65,7 +66,9 @@ job-fits σ few (Ending k) n = in-eight σ k few n
 job-fits σ few Nothing n = tt
 
 -- a tick that is possible, with a code that is not 2, has code 1, which good form gives to no tick that leads to a late state
-module _ (σ : Sheet) (rows : List Entry) (sheet : Good σ) (form : Good-rows σ rows) (d : Desk) (bytes : (d .now < 256) × (d .elapsed < 256) × (length (d .statuses) ≡ 8)) (known : Known (d .statuses)) where
+module _
+    (σ : Sheet) (rows : List Entry) (sheet : Good σ) (form : Good-rows σ rows) (d : Desk)
+    (bytes : (d .now < 256) × (d .elapsed < 256) × (length (d .statuses) ≡ 8)) (known : Known (d .statuses)) where
   abbrev q : State
   q = state-in d
 
@@ -97,7 +100,8 @@ module _ (σ : Sheet) (rows : List Entry) (sheet : Good σ) (form : Good-rows σ
         let r = lookup-some (word q) rows (ap (λ (x : RowReply). x .number) (sym f) ∙ z) in
         tick-open (r .0) (t .tick) (r .1) (r .2) (ap (λ (x : RowReply). x .tick) (f ∙ r .3)) (told-yes (is-possible σ q tick) p) (told-yes (is-not (is-eq (t .tick) 2)) a)
 
-    pub fits-in : (e : Event) (s : by-value.State) → model s ≡ q → on false (names σ) (kind-of e) ≡ true → on false (possible σ q) (kind-of e) ≡ true → on false (allows (t .starts) (t .tick)) (kind-of e) ≡ true → Fits-in s e
+    pub fits-in : (e : Event) (s : by-value.State) → model s ≡ q → on false (names σ) (kind-of e) ≡ true
+        → on false (possible σ q) (kind-of e) ≡ true → on false (allows (t .starts) (t .tick)) (kind-of e) ≡ true → Fits-in s e
     fits-in Tick s m n p a =
         let w = tick-bytes p a in
         let b : s .now ≡ d .now = ap (λ (x : State). x .now) m in

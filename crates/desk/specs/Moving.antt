@@ -1,6 +1,6 @@
 -- What the code asks of an event before it goes on, case by case.
 use Prim.Native.Nat.{_<_}
-use Rattle.plant.specs.Search.{In}
+use Rattle.plant.specs.Range.{In}
 use Rattle.state.specs.declared.event.Event.{Event}
 use Rattle.state.specs.declared.event.Event.the-variants.{Tick, Arrival, Start, Ending, Nothing}
 use Rattle.state.specs.declared.word.State.{State}

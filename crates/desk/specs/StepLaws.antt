@@ -99,7 +99,8 @@ module _ (σ : Sheet) (rows : List Entry) (d : Desk) where
       ten none h p = absurd (subst T (sym h) tt)
       ten (some e) h p = rw (h, k, ← f, eq-eqb (t .number) 0 z, p) refl
 
-      pub eleven : (o : Option Event) → on false (names σ) o ≡ true → on false (possible σ (state-in d)) o ≡ true → on false (allows (t .starts) (t .tick)) o ≡ false → stays 11 0 d ≡ Reply o
+      pub eleven : (o : Option Event) → on false (names σ) o ≡ true → on false (possible σ (state-in d)) o ≡ true
+          → on false (allows (t .starts) (t .tick)) o ≡ false → stays 11 0 d ≡ Reply o
       eleven none h p a = absurd (subst T (sym h) tt)
       eleven (some e) h p a = rw (h, k, ← f, eq-eqb (t .number) 0 z, p, a) refl
 

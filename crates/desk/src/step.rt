@@ -5,7 +5,7 @@ ghost use Rattle.sheet.specs.Model.{Sheet, word};
 ghost use Rattle.sheet.specs.Table.{Entry};
 ghost use Rattle.state.specs.Clocks.{Known};
 ghost use Rattle.table.specs.Reading.{good};
-ghost use Rattle.table.specs.OneReading.{reading};
+ghost use Rattle.table.specs.Read.{reading};
 ghost use Rattle.table.specs.Replies.{lookup};
 ghost use Rattle.desk.specs.Stepping.{state-in, stays, step-reply};
 use crate::desk::Desk;

@@ -9,11 +9,10 @@ use lib.Dec.{lit<}
 use lib.ListN.{length, getD}
 use lib.Bits.{bitAnd, and-mask}
 use lib.Pow.{shr-shr, shr-le}
-use Rattle.plant.specs.Search.{In}
+use Rattle.plant.specs.Range.{In}
 use Rattle.plant.specs.Marks.{Has}
 use Rattle.plant.specs.Mask.{byte-some}
-use Rattle.sheet.specs.Model.{digits-word, status}
-use Rattle.sheet.specs.Form.{digits, state-of}
+use Rattle.sheet.specs.Model.{digits-word, status, digits, state-of}
 use Rattle.sheet.specs.WordLaws.{digits-lt, word-of-digits}
 use Rattle.state.specs.BitLaws.{four-pow}
 

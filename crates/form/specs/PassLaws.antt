@@ -9,13 +9,12 @@ use mathlib.Core.Bool.{Bool, true, false, _&&_, _||_}
 use mathlib.Core.List.{List, []}
 use lib.ListN.{getD}
 use lib.Dec.{eqb}
-use Rattle.plant.specs.Search.{In}
+use Rattle.plant.specs.Range.{In}
 use Rattle.plant.specs.Marks.{Has}
 use Rattle.plant.specs.Reflect.{Is, is-map, is-eq, is-and, is-true}
-use Rattle.sheet.specs.Model.{Job, Sheet, job, State, status}
-use Rattle.sheet.specs.Form.{state-of}
+use Rattle.sheet.specs.Model.{Job, Sheet, job, State, status, state-of}
 use Rattle.sheet.specs.Arrays.{job-of, sheet-of}
-use Rattle.state.specs.SheetLaws.{job-suc}
+use Rattle.sheet.specs.ArraysLaws.{job-suc}
 use Rattle.state.specs.Tell.{tell-no, told-yes, told-no}
 use Rattle.form.specs.declared.row.Seen.the-variants.{Passed}
 use Rattle.form.specs.RowTest.{Job-fits, Pends, Spends, Jobs-fit, Runs, Tells}

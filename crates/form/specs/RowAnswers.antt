@@ -8,10 +8,10 @@ use mathlib.Core.List.{List}
 use lib.ListN.{length}
 use lib.Dec.{eqb, leb}
 use Rattle.plant.specs.Reflect.{Is, is-map, is-le, is-eq, is-and, is-not, is-dec, stable}
-use Rattle.sheet.specs.Model.{Sheet, State, Finished}
-use Rattle.sheet.specs.Form.{state-of, Good-entry}
+use Rattle.sheet.specs.Model.{Sheet, State, Finished, state-of}
+use Rattle.sheet.specs.Form.{Good-entry}
 use Rattle.sheet.specs.Arrays.{sheet-of}
-use Rattle.state.specs.SheetLaws.{length-sheet}
+use Rattle.sheet.specs.ArraysLaws.{length-sheet}
 use Rattle.state.specs.Tell.{tell-no, told-yes, told-no}
 use Rattle.form.specs.declared.row.Seen.the-variants.{Refused, Passed}
 use Rattle.form.specs.RowTest.{Tells, Runs, Ends, Marks-fit}

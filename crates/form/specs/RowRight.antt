@@ -8,14 +8,14 @@ use mathlib.Core.Logic.{_≢_, _⊎_, inl, inr, ⊎-elim}
 use mathlib.Core.Bool.{Bool, true}
 use lib.ListN.{length}
 use Rattle.plant.specs.Plant.{tick, start}
-use Rattle.plant.specs.Search.{In}
+use Rattle.plant.specs.Range.{In}
 use Rattle.plant.specs.Marks.{Has}
 use Rattle.plant.specs.Mask.{byte-some}
 use Rattle.plant.specs.Reflect.{Is, is-map, is-dec, is-true}
-use Rattle.sheet.specs.Model.{Sheet, Names, job, State, status, Possible, Finished, next, Late}
-use Rattle.sheet.specs.ModelTests.{is-finished, is-late}
+use Rattle.sheet.specs.Model.{Sheet, Names, job, State, status, Possible, Finished, next, Late, digits, state-of}
+use Rattle.sheet.specs.ModelTestsRight.{is-finished, is-late}
 use Rattle.sheet.specs.WordLaws.{length-digits, digits-lt, word-of-digits}
-use Rattle.sheet.specs.Form.{digits, state-of, Timely, Under-way, Finished-state, Good-entry}
+use Rattle.sheet.specs.Form.{Timely, Under-way, Finished-state, Good-entry}
 use Rattle.sheet.specs.Table.{Entry}
 use Rattle.state.specs.Tell.{told-yes}
 use Rattle.look.specs.LateLaws.{is-due, due-late}

@@ -3,7 +3,7 @@ use Prim.Native.Nat.{ℕ, _+_, _≤_, _<_}
 use mathlib.Core.Path.{_≡_}
 use mathlib.Core.Logic.{_⊎_}
 use mathlib.Core.List.{[]}
-use Rattle.plant.specs.Search.{In}
+use Rattle.plant.specs.Range.{In}
 use Rattle.plant.specs.Marks.{Has}
 use Rattle.plant.specs.Reflect.{Is}
 use Rattle.sheet.specs.Model.{Job, Sheet, job, State, status}

@@ -2,7 +2,7 @@
 ghost use mathlib.Core.Path.{_≡_};
 ghost use Rattle.engine.specs.Verdict.{Verdict};
 ghost use Rattle.maker.specs.Making.{Made};
-ghost use Rattle.table.specs.OneReading.{reading};
+ghost use Rattle.table.specs.Read.{reading};
 ghost use Rattle.table.specs.Replies.{row-reply, listing-reply, leeway-reply};
 ghost use Rattle.quick.specs.Quick.{Quick};
 ghost use Rattle.desk.specs.Stepping.{step-reply};
@@ -47,7 +47,8 @@ pub extern "C" fn smirrado_leeway(file: &[u8], word: u32, job: u32) -> table::le
 // The thin step over the caller's desk: the record is copied out, and the one answered is put back whole.
 #[no_mangle]
 pub extern "C" fn smirrado_step(file: &[u8], desk: &mut Desk, event: u8) -> StepReply
-    ensures { λ r. ⌜ (r ≡ step-reply (now (desk .entry)) event (reading (now (file .entry))) .reply) × (now (desk .exit) ≡ step-reply (now (desk .entry)) event (reading (now (file .entry))) .desk) ⌝ }
+    ensures { λ r. ⌜ (r ≡ step-reply (now (desk .entry)) event (reading (now (file .entry))) .reply)
+        × (now (desk .exit) ≡ step-reply (now (desk .entry)) event (reading (now (file .entry))) .desk) ⌝ }
 {
     let s = desk::step::step(file, *desk, event);
     *desk = s.desk;

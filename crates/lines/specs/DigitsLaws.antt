@@ -112,7 +112,8 @@ led-by : (k n : ℕ) → n < k → Numeral n (decimal n) × (1 ≤ n → digit 1
 led-by zero n h = absurd (omega arith)
 led-by (suc k) n h = go (decLt n 10) (λ a. led-by k (n / 10) (omega arith))
   where
-    go : Dec (n < 10) → (10 ≤ n → Numeral (n / 10) (decimal (n / 10)) × (1 ≤ n / 10 → digit 1 ≤ getD (decimal (n / 10)) 0 0)) → Numeral n (decimal n) × (1 ≤ n → digit 1 ≤ getD (decimal n) 0 0)
+    go : Dec (n < 10) → (10 ≤ n → Numeral (n / 10) (decimal (n / 10)) × (1 ≤ n / 10 → digit 1 ≤ getD (decimal (n / 10)) 0 0))
+        → Numeral n (decimal n) × (1 ≤ n → digit 1 ≤ getD (decimal n) 0 0)
     go (yes a) f = rw (one-digit n a) (alone n a, λ b. omega arith)
     go (no a) f =
         let r = f (omega arith) in

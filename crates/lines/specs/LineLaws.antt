@@ -11,9 +11,8 @@ use lib.Seq.{take-suc, length-take-le}
 use lib.Dec.{eqb}
 use borrow.Author.Tests.{eq-eqb, ne-eqb}
 use Rattle.plant.specs.Marks.{Has}
-use Rattle.sheet.specs.Model.{State}
+use Rattle.sheet.specs.Model.{State, digits, state-of}
 use Rattle.sheet.specs.Table.{Entry}
-use Rattle.sheet.specs.Form.{digits, state-of}
 use Rattle.sheet.specs.WordLaws.{length-digits, digits-lt}
 use Rattle.blocks.specs.Sizes.{most-jobs}
 use Rattle.lines.specs.Digits.{digit, decimal}

@@ -4,9 +4,8 @@ use mathlib.Core.Bool.{cond}
 use mathlib.Core.List.{List, [], _∷_, _++_, map}
 use lib.ListN.{length, take}
 use lib.Dec.{eqb}
-use Rattle.sheet.specs.Model.{State}
+use Rattle.sheet.specs.Model.{State, state-of}
 use Rattle.sheet.specs.Table.{Entry}
-use Rattle.sheet.specs.Form.{state-of}
 use Rattle.blocks.specs.File.{joined}
 use Rattle.lines.specs.Words.{bytes}
 use Rattle.lines.specs.Digits.{digit, decimal}

@@ -2,8 +2,8 @@
 ghost use mathlib.Core.List.{[], _∷_, map};
 ghost use Prim.Native.Nat.{_+_, _≤_};
 ghost use lib.ListN.{length, take};
-ghost use Rattle.plant.specs.Search.{In};
-ghost use Rattle.sheet.specs.Form.{state-of};
+ghost use Rattle.plant.specs.Range.{In};
+ghost use Rattle.sheet.specs.Model.{state-of};
 ghost use Rattle.state.specs.Clocks.{Known};
 ghost use Rattle.blocks.specs.Sizes.{most-jobs};
 ghost use Rattle.lines.specs.Digits.{digit, decimal};

@@ -8,7 +8,8 @@ use mathlib.Core.List.{List, [], _∷_, List·Memᴰ, List·Memᴰ·not-nil}
 use lib.ListN.{length, take, drop, replicate, length-map, length-append}
 use lib.Seq.{take-at}
 use Rattle.plant.specs.Plant.{Live, Safe, at-start}
-use Rattle.plant.specs.Lists.{Number, at-most}
+use Rattle.plant.specs.Number.{Number}
+use Rattle.plant.specs.Lists.{at-most}
 use Rattle.plant.specs.SafeLaws.{safe-live}
 use Rattle.plant.specs.TableLaws.{row-safe}
 use Rattle.sheet.specs.Model.{Sheet, Good, initial, plant}
@@ -84,7 +85,9 @@ pub record Listed (numbers file : List ℕ) (r : MakeReply) : Type 0 where
   pub says : Says (take (r .length) file) (good (lent numbers) rows)
   pub text : Sheet-text numbers (listing-text (length (lent numbers)) rows)
 
-module _ {numbers work₀ work file₀ file : List ℕ} {r : MakeReply} (m : Made numbers work₀ work file₀ file r) (s : Sheet-length numbers) (room : work-words ≤ length work₀) (size : length file₀ ≡ block-bytes * most-blocks) where
+module _
+    {numbers work₀ work file₀ file : List ℕ} {r : MakeReply} (m : Made numbers work₀ work file₀ file r)
+    (s : Sheet-length numbers) (room : work-words ≤ length work₀) (size : length file₀ ≡ block-bytes * most-blocks) where
   pub made-refused : r .number ≢ 0 → Sheet-text numbers (refusal-text (r .number) (r .detail))
   made-refused n = go m
     where

@@ -5,7 +5,7 @@ use mathlib.Core.Logic.{_≢_, _⊎_}
 use mathlib.Core.List.{List}
 use lib.ListN.{length}
 use Rattle.plant.specs.Plant.{Live, Safe}
-use Rattle.plant.specs.Lists.{Number}
+use Rattle.plant.specs.Number.{Number}
 use Rattle.sheet.specs.Model.{Good, initial, plant}
 use Rattle.sheet.specs.Table.{Entry, Rows}
 use Rattle.state.specs.Lowest.{lowest-bad}
@@ -20,8 +20,10 @@ use Rattle.lines.specs.Printed.{Printed}
 pub data Sheet-text (numbers printed : List ℕ) : Type 0 where
   bad-job : lowest-bad (lent numbers) ≢ 0 → printed ≡ refusal-text 2 (lowest-bad (lent numbers)) → Sheet-text numbers printed
   too-many : Good (lent numbers) → (n : ℕ) → Number (Live (plant (lent numbers))) n → most-live < n → printed ≡ refusal-text 4 0 → Sheet-text numbers printed
-  impossible : Good (lent numbers) → (n : ℕ) → Number (Live (plant (lent numbers))) n → n ≤ most-live → ¬ (Safe (plant (lent numbers)) initial) → printed ≡ refusal-text 5 0 → Sheet-text numbers printed
-  listed : Good (lent numbers) → (n : ℕ) → Number (Live (plant (lent numbers))) n → n ≤ most-live → Safe (plant (lent numbers)) initial → (rows : List Entry) → Rows (lent numbers) rows → printed ≡ listing-text (length (lent numbers)) rows → Sheet-text numbers printed
+  impossible : Good (lent numbers) → (n : ℕ) → Number (Live (plant (lent numbers))) n → n ≤ most-live → ¬ (Safe (plant (lent numbers)) initial)
+      → printed ≡ refusal-text 5 0 → Sheet-text numbers printed
+  listed : Good (lent numbers) → (n : ℕ) → Number (Live (plant (lent numbers))) n → n ≤ most-live → Safe (plant (lent numbers)) initial
+      → (rows : List Entry) → Rows (lent numbers) rows → printed ≡ listing-text (length (lent numbers)) rows → Sheet-text numbers printed
 
 -- what is printed for a text: that of the numbers that it spells. "Anything else is refusal 1."
 abbrev pub Prints : (text printed : List ℕ) → Type 0

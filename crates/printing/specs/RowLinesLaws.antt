@@ -7,12 +7,11 @@ use mathlib.Core.List.{List, [], _∷_, _++_, map, append-assoc, append-nil}
 use lib.ListN.{length, getD}
 use lib.Seq.{ext-getD}
 use Rattle.sheet.specs.Model.{Sheet}
-use Rattle.sheet.specs.Table.{Entry}
+use Rattle.sheet.specs.Table.{Entry, no-entry}
 use Rattle.blocks.specs.Sizes.{most-jobs}
 use Rattle.blocks.specs.File.{joined}
 use Rattle.blocks.specs.Held.{tab}
 use Rattle.blocks.specs.TabLaws.{length-tab, getD-tab, tab-snoc}
-use Rattle.blocks.specs.SlotLaws.{no-entry}
 use Rattle.blocks.specs.Bytes.{u32-at}
 use Rattle.blocks.specs.Fields.{row-from}
 use Rattle.table.specs.Reading.{Says, good}
@@ -53,7 +52,9 @@ module _ {file : List ℕ} {σ : Sheet} {rows : List Entry} (s : Says file (good
   rows-are : tab (length rows) (λ i. row-from file (place i)) ≡ rows
   rows-are =
       let f : ℕ → Entry = λ i. row-from file (place i) in
-      ext-getD no-entry (tab (length rows) f) rows (length-tab (length rows) f) (λ i h. let l : i < length rows = omega (arith, length-tab (length rows) f) in getD-tab (length rows) f no-entry i l ∙ row-placed s i l)
+      ext-getD no-entry (tab (length rows) f) rows (length-tab (length rows) f) (λ i h.
+      let l : i < length rows = omega (arith, length-tab (length rows) f) in
+      getD-tab (length rows) f no-entry i l ∙ row-placed s i l)
 
   -- a file's jobs, by its own byte
   pub jobs-told : length σ ≡ getD file 3 0

@@ -6,7 +6,8 @@ use mathlib.Core.List.{List, [], _∷_, List·Memᴰ·not-nil}
 use lib.ListN.{length, take, drop}
 use lib.Seq.{take-at}
 use Rattle.plant.specs.Plant.{Live, Safe, at-start}
-use Rattle.plant.specs.Lists.{Number, at-most}
+use Rattle.plant.specs.Number.{Number}
+use Rattle.plant.specs.Lists.{at-most}
 use Rattle.plant.specs.SafeLaws.{safe-live}
 use Rattle.plant.specs.TableLaws.{row-safe}
 use Rattle.sheet.specs.Model.{Sheet, Good, initial, plant}
@@ -15,7 +16,7 @@ use Rattle.sheet.specs.RowsLaws.{rows-good, rows-number}
 use Rattle.blocks.specs.File.{bytes-of}
 use Rattle.blocks.specs.FileLaws.{length-bytes}
 use Rattle.table.specs.Reading.{Table, good}
-use Rattle.table.specs.OneReading.{reading}
+use Rattle.table.specs.Read.{reading}
 use Rattle.table.specs.TableBytes.{read-back}
 use Rattle.live.specs.Growing.{most-live}
 use Rattle.state.specs.Lent.{lent}

@@ -4,7 +4,7 @@ use mathlib.Core.Path.{_≡_, refl}
 use mathlib.Core.List.{[], List·Memᴰ}
 use lib.ListN.{length, getD}
 use lib.IntN.{pos}
-use Rattle.sheet.specs.Form.{digits}
+use Rattle.sheet.specs.Model.{digits}
 use Rattle.sheet.specs.Starred.{Star, stars, Claim, starred}
 use Rattle.blocks.specs.Sizes.{body-bytes}
 use Rattle.blocks.specs.Bytes.{u32-at}

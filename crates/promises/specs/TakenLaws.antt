@@ -4,32 +4,27 @@ use native.Mathlib.Omega.{arith}
 use mathlib.Core.Path.{_≡_, refl, sym, ap, subst, _∙_}
 use mathlib.Core.Logic.{_⊎_, inl, inr}
 use mathlib.Core.Bool.{Bool, true, false, cond}
-use mathlib.Core.Option.{Option, none, some}
 use mathlib.Core.List.{List, [], _∷_, List·Memᴰ, List·Memᴰ·not-nil, List·Memᴰ·cases-cons}
 use lib.Dec.{T, eqb}
 use borrow.Author.Tests.{eq-eqb, ne-eqb}
 use Rattle.plant.specs.Plant.{Event, tick, arrival, start, ending, Row, Safe}
-use Rattle.plant.specs.Rule.{reached, Run, begin, more, Allowed, Table}
+use Rattle.plant.specs.Rule.{Allowed}
 use Rattle.plant.specs.Asked.{Named}
 use Rattle.plant.specs.Marks.{Code}
 use Rattle.plant.specs.Reflect.{Is, is-map, is-eq, is-and, is-le, is-not, is-true}
 use Rattle.plant.specs.SafeLaws.{safe-live}
-use Rattle.plant.specs.TableLaws.{row-safe, run-row}
-use Rattle.sheet.specs.Model.{Sheet, Good, State, initial, Possible, next, word, plant}
-use Rattle.sheet.specs.ModelTests.{possible, is-possible}
+use Rattle.plant.specs.TableLaws.{row-safe}
+use Rattle.sheet.specs.Model.{Sheet, Good, State, Possible, next, word, plant}
+use Rattle.sheet.specs.ModelTestsRight.{is-possible}
+use Rattle.sheet.specs.ModelTests.{possible}
 use Rattle.sheet.specs.Table.{Entry, Ascending, Entry-of, Rows}
 use Rattle.sheet.specs.RowsLaws.{ascending-tail, ascending-below}
 use Rattle.sheet.specs.OrderLaws.{live-wordy}
-use Rattle.state.specs.EventByte.{event-of, kind-of, byte-of}
-use Rattle.state.specs.EventLaws.{event-byte, byte-event}
-use Rattle.table.specs.Reading.{good}
-use Rattle.table.specs.OneReading.{reading}
 use Rattle.table.specs.Replies.{told, lookup}
-use Rattle.desk.specs.Stepping.{desk-of, known, on, names, allows, stays, moves, asked, step-reply}
+use Rattle.desk.specs.Stepping.{desk-of, known, names, allows, stays, moves, asked}
 use Rattle.desk.specs.StepLaws.{is-known}
 use Rattle.desk.specs.declared.desk.Desk.{Desk}
 use Rattle.desk.specs.declared.step.Stepped.{Stepped}
-use Rattle.promises.specs.Night.{Night, opened, taken, events, bytes}
 
 -- the row of a word is looked up where it stands
 pub lookup-there : (rows : List Entry) → Ascending rows → (e : Entry) → List·Memᴰ e rows → lookup (e .word) rows ≡ told e
@@ -119,67 +114,3 @@ module _ (σ : Sheet) (sheet : Good σ) (rows : List Entry) (right : Rows σ row
         let t = all-pass (names σ e) (possible σ q e) (allows (entry .starts) (entry .tick) e) (desk-of q) (next σ q e) (ap (λ (s : Stepped). s .reply .number) (sym (asked-is e)) ∙ z) in
         let p = is-possible σ q e .holds (t .1) in
         (p, allows-right e p .holds (t .2))
-
-  -- Nights and runs -------------------------------------------------------------------------------------------------------
-
-  module _ (safe : Safe (plant σ) initial) (file : List ℕ) (read : reading file ≡ good σ rows) where
-    abbrev Follows : List Event → Type 0
-    Follows = Run (plant σ) (Table (plant σ))
-
-    -- LAW: what step takes from the start on is a run of the table, and the desk is the state that it leads to
-    pub night-run : {h : List ℕ} {d : Desk} → Night file h d → Follows (events h) × (d ≡ desk-of (reached (plant σ) (events h)))
-    night-run opened = (begin, refl)
-    night-run (taken {bytes = h} {d = d} x night z) = go (kind-of (event-of x)) refl (night-run night)
-      where
-        Next : Option Event → Type 0
-        Next o = Follows (on (events h) (λ e. e ∷ events h) o) × (step-reply d x (reading file) .desk ≡ desk-of (reached (plant σ) (on (events h) (λ e. e ∷ events h) o)))
-
-        reply : (o : Option Event) → kind-of (event-of x) ≡ o → step-reply d x (reading file) ≡ on (stays 9 0 d) (asked σ rows d) o
-        reply o k = ap (step-reply d x) read ∙ ap (on (stays 9 0 d) (asked σ rows d)) k
-
-        zero-then : (o : Option Event) → kind-of (event-of x) ≡ o → on (stays 9 0 d) (asked σ rows d) o .reply .number ≡ 0
-        zero-then o k = ap (λ (s : Stepped). s .reply .number) (sym (reply o k)) ∙ z
-
-        go : (o : Option Event) → kind-of (event-of x) ≡ o → Follows (events h) × (d ≡ desk-of (reached (plant σ) (events h))) → Next o
-        go none k w = absurd (omega (arith, zero-then none k))
-        go (some e) k w =
-            let q = reached (plant σ) (events h) in
-            let row = run-row (plant σ) safe (w .0) in
-            let same = ap (λ (b : Desk). asked σ rows b e) (w .1) in
-            let p = took q row e (ap (λ (s : Stepped). s .reply .number) (sym same) ∙ zero-then (some e) k) in
-            (more e (w .0) (p .0) (p .1), ap (λ (s : Stepped). s .desk) (reply (some e) k ∙ (same ∙ takes q row e (p .0) (p .1))))
-
-    -- the step of an event of a run
-    reply-is : {g : List Event} → Follows g → (e : Event) → Possible σ (reached (plant σ) g) e → Allowed (plant σ) (reached (plant σ) g) e
-        → step-reply (desk-of (reached (plant σ) g)) (byte-of e) (reading file) ≡ moves (next σ (reached (plant σ) g) e)
-    reply-is {g} r e p a =
-        let q = reached (plant σ) g in
-        ap (step-reply (desk-of q) (byte-of e)) read
-        ∙ (ap (on (stays 9 0 (desk-of q)) (asked σ rows (desk-of q))) (event-byte e (named-possible q e p))
-        ∙ takes q (run-row (plant σ) safe r) e p a)
-
-    -- LAW: an event that is possible after a run, and that the table allows, is taken
-    pub step-takes : {g : List Event} → Follows g → (e : Event) → Possible σ (reached (plant σ) g) e → Allowed (plant σ) (reached (plant σ) g) e
-        → step-reply (desk-of (reached (plant σ) g)) (byte-of e) (reading file) .reply .number ≡ 0
-    step-takes r e p a = ap (λ (t : Stepped). t .reply .number) (reply-is r e p a)
-
-    -- LAW: every run of the table is such a night
-    pub run-night : {g : List Event} → Follows g → Night file (bytes g) (desk-of (reached (plant σ) g))
-    run-night begin = opened
-    run-night (more {h = g} e r p a) = subst (Night file (bytes (e ∷ g))) (ap (λ (t : Stepped). t .desk) (reply-is r e p a)) (taken (byte-of e) (run-night r) (step-takes r e p a))
-
-    -- the events of the bytes of a run are the run's
-    pub events-bytes : {g : List Event} → Follows g → events (bytes g) ≡ g
-    events-bytes begin = refl
-    events-bytes (more {h = g} e r p a) =
-        ap (on (events (bytes g)) (λ d. d ∷ events (bytes g))) (event-byte e (named-possible (reached (plant σ) g) e p))
-        ∙ ap (λ l. e ∷ l) (events-bytes r)
-
-    -- and the bytes of the events of a night are the bytes that step took
-    pub bytes-events : {h : List ℕ} {d : Desk} → Night file h d → bytes (events h) ≡ h
-    bytes-events opened = refl
-    bytes-events (taken {bytes = h} {d = d} x night z) = go (kind-of (event-of x)) refl (bytes-events night)
-      where
-        go : (o : Option Event) → kind-of (event-of x) ≡ o → bytes (events h) ≡ h → bytes (on (events h) (λ e. e ∷ events h) o) ≡ x ∷ h
-        go none k r = absurd (omega (arith, ap (λ (s : Stepped). s .reply .number) (sym (ap (step-reply d x) read ∙ ap (on (stays 9 0 d) (asked σ rows d)) k)) ∙ z))
-        go (some e) k r = let b = byte-event x e k .1 in λ i. b i ∷ r i

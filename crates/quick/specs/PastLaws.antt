@@ -12,8 +12,7 @@ use Rattle.sheet.specs.Model.{Sheet}
 use Rattle.sheet.specs.Table.{Entry, at}
 use Rattle.state.specs.Tell.{told-yes, told-no}
 use Rattle.blocks.specs.Sizes.{block-slots, slot-bytes, most-rows}
-use Rattle.blocks.specs.Bytes.{u32-at}
-use Rattle.blocks.specs.BytesLaws.{Each-byte}
+use Rattle.blocks.specs.Bytes.{u32-at, Each-byte}
 use Rattle.form.specs.BlockTest.{Rows-block, Jobs-block}
 use Rattle.table.specs.Reading.{total, block-at, Sized, Reads, Good-to, good, bad, Says}
 use Rattle.table.specs.BlockRight.{before}

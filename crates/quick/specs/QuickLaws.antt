@@ -12,7 +12,8 @@ use Rattle.sheet.specs.Model.{Sheet}
 use Rattle.sheet.specs.Table.{Entry, at}
 use Rattle.table.specs.Reading.{total, Sized, Reads, Reading, good, bad, Says}
 use Rattle.table.specs.ReadingLaws.{same-jobs, same-rows, good-below}
-use Rattle.table.specs.OneReading.{reading, reading-says}
+use Rattle.table.specs.Read.{reading}
+use Rattle.table.specs.ReadLaws.{reading-says}
 use Rattle.table.specs.PlaceLaws.{climb, row-lies}
 use Rattle.table.specs.Replies.{told, lookup, row-reply}
 use Rattle.table.specs.RowLaws.{lookup-none}

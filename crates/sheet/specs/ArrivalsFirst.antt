@@ -7,10 +7,11 @@ use mathlib.Core.Logic.{_≢_, _⊎_, inl, inr, _↔_}
 use mathlib.Core.List.{[], _∷_}
 use Rattle.plant.specs.Plant.{Plant, Event, tick, arrival, start, ending, Live, at-start, after, Leads, Safe}
 use Rattle.plant.specs.Reflect.{is-not}
-use Rattle.plant.specs.Lists.{Number, at-most}
+use Rattle.plant.specs.Number.{Number}
+use Rattle.plant.specs.Lists.{at-most}
 use Rattle.plant.specs.SafeLaws.{safe-leads, safe-not-late, leads-weakly, largest}
 use Rattle.sheet.specs.Model.{Job, Sheet, Names, Good, State, status, initial, Possible, next, Late, plant}
-use Rattle.sheet.specs.ModelTests.{is-busy, is-possible}
+use Rattle.sheet.specs.ModelTestsRight.{is-busy, is-possible}
 use Rattle.sheet.specs.Obeys.{tests}
 use Rattle.sheet.specs.Demand3.{lives}
 
@@ -53,7 +54,8 @@ module _ (σ : Sheet) where
   leads-too : {S : State → Type 0} {q : State} → Leads (plant σ) S q → Leads (any-order σ) S q
   leads-too {S} {q} r = record { arrivals = r .arrivals; endings = r .endings; clock = λ p. go (r .clock p) }
     where
-      go : S (next σ q tick) ⊎ ((i : ℕ) × Possible σ q (start i) × S (next σ q (start i))) → S (next σ q tick) ⊎ ((i : ℕ) × Possible-in-any-order σ q (start i) × S (next σ q (start i)))
+      go : S (next σ q tick) ⊎ ((i : ℕ) × Possible σ q (start i) × S (next σ q (start i)))
+          → S (next σ q tick) ⊎ ((i : ℕ) × Possible-in-any-order σ q (start i) × S (next σ q (start i)))
       go (inl s) = inl s
       go (inr w) = inr (w .0, too q (start (w .0)) (w .1), w .2)
 

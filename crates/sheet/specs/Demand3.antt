@@ -27,7 +27,8 @@ pub record Followed (σ : Sheet) (R : Rule) : Type 0 where
   pub all-out : (h : List Event) → Run (plant σ) R h → latest σ < ticks h → Finished σ (reached (plant σ) h)
   -- every run finishes, and then each job has arrived, started and ended exactly once: no two sevens and no eight
   pub finishes : (h : List Event) → Run (plant σ) R h → 3 * length σ + latest σ ≤ length h → Finished σ (reached (plant σ) h)
-  pub once : (h : List Event) → Run (plant σ) R h → Finished σ (reached (plant σ) h) → (i : ℕ) → Names σ i → (count (arrival i) h ≡ 1) × (count (start i) h ≡ 1) × (count (ending i) h ≡ 1)
+  pub once : (h : List Event) → Run (plant σ) R h → Finished σ (reached (plant σ) h) → (i : ℕ) → Names σ i
+      → (count (arrival i) h ≡ 1) × (count (start i) h ≡ 1) × (count (ending i) h ≡ 1)
 
 pub record Demand-3 (σ : Sheet) : Type 1 where
   -- "For a sheet that gets a table, follow the table in any way .."

@@ -1,24 +1,14 @@
 -- "A row is of good form when its word is in order and its marks fit." (01, "Table file")
-use Prim.Native.Nat.{ℕ, zero, suc, _+_, _/_, _%_, _^_, _≤_, _<_}
+use Prim.Native.Nat.{ℕ, _+_, _^_, _≤_, _<_}
 use mathlib.Core.Path.{_≡_}
 use mathlib.Core.Logic.{_≢_, _⊎_}
-use mathlib.Core.List.{List, [], _∷_}
+use mathlib.Core.List.{List}
 use lib.ListN.{length}
 use Rattle.plant.specs.Plant.{tick, start}
-use Rattle.plant.specs.Search.{In}
+use Rattle.plant.specs.Range.{In}
 use Rattle.plant.specs.Marks.{Has}
-use Rattle.sheet.specs.Model.{Job, Sheet, Names, job, State, status, Possible, Finished, next, Late}
+use Rattle.sheet.specs.Model.{Job, Sheet, Names, job, State, status, Possible, Finished, next, Late, state-of}
 use Rattle.sheet.specs.Table.{Entry, at, Ascending}
-
--- The state of a word ---------------------------------------------------------------------------------------------------
-
--- the first k base-four digits, the lowest first
-unfoldable pub digits : ℕ → ℕ → List ℕ
-digits zero w = []
-digits (suc k) w = w % 4 ∷ digits k (w / 4)
-
-abbrev pub state-of : ℕ → State
-state-of w = record { now = w / 2 ^ 24; elapsed = w / 2 ^ 16 % 256; statuses = digits 8 w }
 
 -- In order --------------------------------------------------------------------------------------------------------------
 

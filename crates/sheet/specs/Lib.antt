@@ -4,9 +4,11 @@ pub mod Model
 pub mod Table
 pub mod Form
 pub mod Arrays
+pub mod ModelTests
 -- What follows:
 pub mod WordLaws
-pub mod ModelTests
+pub mod ArraysLaws
+pub mod ModelTestsRight
 pub mod Obeys
 pub mod OrderLaws
 pub mod LateLaws

@@ -1,5 +1,5 @@
 -- 01's rules from "Sheet" to "State word" as definitions, in its order and words. Jobs are counted from 1, ticks from 0.
-use Prim.Native.Nat.{ℕ, _+_, _-_, _*_, _^_, _≤_, _<_}
+use Prim.Native.Nat.{ℕ, zero, suc, _+_, _-_, _*_, _/_, _%_, _^_, _≤_, _<_}
 use mathlib.Core.Path.{_≡_}
 use mathlib.Core.Logic.{_≢_}
 use mathlib.Core.Bool.{Bool, cond}
@@ -7,8 +7,7 @@ use mathlib.Core.List.{List, [], _∷_}
 use lib.ListN.{length, getD, set, replicate}
 use lib.Dec.{eqb}
 use Rattle.plant.specs.Plant.{Plant, Event, tick, arrival, start, ending}
-use Rattle.plant.specs.Search.{every, some}
-use Rattle.plant.specs.Sums.{greatest}
+use Rattle.plant.specs.Range.{every, some, greatest}
 
 -- Sheet ---------------------------------------------------------------------------------------------------------------
 
@@ -26,8 +25,12 @@ Sheet = List Job
 abbrev pub Names : Sheet → ℕ → Type 0
 Names σ i = (1 ≤ i) × (i ≤ length σ)
 
+-- job `i`; what stands past the last is no job
+abbrev pub no-job : Job
+no-job = record { arrives = 0; fewest = 0; most = 0; due = 0 }
+
 abbrev pub job : Sheet → ℕ → Job
-job σ i = getD σ (i - 1) (record { arrives = 0; fewest = 0; most = 0; due = 0 })
+job σ i = getD σ (i - 1) no-job
 
 -- "Good form: 1 ≤ B ≤ W ≤ D and A + D ≤ 255, in true sums"
 pub record Good-job (j : Job) : Type 0 where
@@ -121,6 +124,14 @@ digits-word (s ∷ l) = s + 4 * digits-word l
 
 abbrev pub word : State → ℕ
 word q = q .now * 2 ^ 24 + q .elapsed * 2 ^ 16 + digits-word (q .statuses)
+
+-- and the state of a word: the statuses are its first eight base-four digits, the lowest first
+unfoldable pub digits : ℕ → ℕ → List ℕ
+digits zero w = []
+digits (suc k) w = w % 4 ∷ digits k (w / 4)
+
+abbrev pub state-of : ℕ → State
+state-of w = record { now = w / 2 ^ 24; elapsed = w / 2 ^ 16 % 256; statuses = digits 8 w }
 
 -- The sheet as a plant -------------------------------------------------------------------------------------------------
 

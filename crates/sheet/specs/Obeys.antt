@@ -17,7 +17,8 @@ use Rattle.plant.specs.Shop.{Shop, turn, older, longer}
 use Rattle.plant.specs.Turns.{turned, length-turned, turned-at, zeros-at, was-zero, Here, was-here}
 use Rattle.plant.specs.Once.{Once, on}
 use Rattle.sheet.specs.Model.{Sheet, Names, job, Good, latest, State, status, initial, Possible, Finished, finished, busy, next, Late, plant}
-use Rattle.sheet.specs.ModelTests.{possible, late, is-possible, is-late, is-busy, is-finished, tick-or, Held}
+use Rattle.sheet.specs.ModelTestsRight.{is-possible, is-late, is-busy, is-finished, tick-or, Held}
+use Rattle.sheet.specs.ModelTests.{possible, late}
 
 abbrev pub same-state : State → State → Bool
 same-state q r = eqb (q .now) (r .now) && (eqb (q .elapsed) (r .elapsed) && same-list (q .statuses) (r .statuses))
@@ -93,11 +94,16 @@ module _ (σ : Sheet) (q : State) where
   pub unfinished-next : (e : Event) → ¬ (Finished σ (next σ q e)) → next σ q e .now ≡ on e (q .now)
   unfinished-next (arrival i) nd = refl
   unfinished-next (start i) nd = refl
-  unfinished-next (ending i) nd = ap (λ (b : Bool). (cond b (zeroed (ended i)) (ended i)) .now) (is-false (is-finished σ (ended i)) (λ d. nd (λ j k. ap (λ (l : List ℕ). getD l (j - 1) 0) (status-next (ending i)) ∙ d j k)))
+  unfinished-next (ending i) nd = ap (λ (b : Bool). (cond b (zeroed (ended i)) (ended i)) .now) (is-false (is-finished σ (ended i)) not-done)
+    where
+      not-done : ¬ (Finished σ (ended i))
+      not-done d = nd (λ j k. ap (λ (l : List ℕ). getD l (j - 1) 0) (status-next (ending i)) ∙ d j k)
   unfinished-next tick nd = ap (λ (b : Bool). (cond b q ticked) .now) (is-false (is-finished σ q) (λ d. nd (subst (Finished σ) (sym (still d)) d)))
 
   pub ticked-elapsed : (j : ℕ) → Names σ j → status q j ≡ 2 → next σ q tick .elapsed ≡ q .elapsed + 1
-  ticked-elapsed j k z = ap (λ (b : Bool). (cond b q ticked) .elapsed) (is-false (is-finished σ q) (λ d. omega (arith, d j k))) ∙ ap (λ (b : Bool). cond b (q .elapsed + 1) (q .elapsed)) (is-true (is-busy σ q) (j, k, z))
+  ticked-elapsed j k z =
+      ap (λ (b : Bool). (cond b q ticked) .elapsed) (is-false (is-finished σ q) (λ d. omega (arith, d j k)))
+      ∙ ap (λ (b : Bool). cond b (q .elapsed + 1) (q .elapsed)) (is-true (is-busy σ q) (j, k, z))
 
 -- What holds of every state that is reached -----------------------------------------------------------------------------------
 
@@ -149,7 +155,8 @@ module _ (σ : Sheet) (few : length σ ≤ 8) where
       go (yes y) = y
       go (no n) = absurd (nl (i, record { names = k; arrived = a; unfinished = u; past = omega arith }))
 
-  pub ages : (q : State) → Fit σ q → (e : Event) → Possible σ q e → (j : ℕ) → Names σ j → 1 ≤ turn e j (status q j) → turn e j (status q j) ≤ 2 → next σ q e .now - job σ j .arrives ≡ older e j (q .now - job σ j .arrives)
+  pub ages : (q : State) → Fit σ q → (e : Event) → Possible σ q e → (j : ℕ) → Names σ j → 1 ≤ turn e j (status q j) → turn e j (status q j) ≤ 2
+      → next σ q e .now - job σ j .arrives ≡ older e j (q .now - job σ j .arrives)
   ages q f tick p j k a b = omega (arith, f .since j k (a, b), goes q f tick p j k b)
   ages q f (start i) p j k a b = refl
   ages q f (ending i) p j k a b = omega (arith, goes q f (ending i) p j k b)

@@ -20,7 +20,7 @@ use Rattle.plant.specs.Once.{on, now-latest}
 use Rattle.sheet.specs.Model.{Sheet, Names, job, Good, latest, State, status, initial, Possible, Finished, finished, busy, next, plant}
 use Rattle.sheet.specs.Form.{Timely, Under-way, Finished-state, In-order}
 use Rattle.sheet.specs.WordLaws.{Wordy}
-use Rattle.sheet.specs.ModelTests.{is-finished, is-busy}
+use Rattle.sheet.specs.ModelTestsRight.{is-finished, is-busy}
 use Rattle.sheet.specs.Obeys.{named, status-next, rested, still, unfinished-next, Fit, shop, once}
 
 -- no job runs
@@ -89,7 +89,8 @@ module _ (σ : Sheet) (few : length σ ≤ 8) where
     merged-next : Finished σ (next σ q e) → (next σ q e .now ≡ 0) × (next σ q e .elapsed ≡ 0)
     merged-next d = go e p d turns
       where
-        go : (e : Event) → Possible σ q e → Finished σ (next σ q e) → ((j : ℕ) → 1 ≤ j → status (next σ q e) j ≡ turn e j (status q j)) → (next σ q e .now ≡ 0) × (next σ q e .elapsed ≡ 0)
+        go : (e : Event) → Possible σ q e → Finished σ (next σ q e) → ((j : ℕ) → 1 ≤ j → status (next σ q e) j ≡ turn e j (status q j))
+            → (next σ q e .now ≡ 0) × (next σ q e .elapsed ≡ 0)
         go tick p d t = let d′ : Finished σ q = λ i k. sym (t i (k .0)) ∙ d i k in subst (λ (r : State). (r .now ≡ 0) × (r .elapsed ≡ 0)) (sym (still σ q d′)) (o .merged d′)
         go (arrival i) p d t = absurd (omega (arith, d i (p .0), t i (p .0 .0), own))
           where
@@ -157,7 +158,12 @@ latest-le σ good = greatest-le (length σ) (λ i. job σ i .arrives + job σ i 
 
 pub live-wordy : (σ : Sheet) → Good σ → {q : State} → Live (plant σ) q → Wordy q
 unfolding shop once
-live-wordy σ good {q} v = record { now-fits = now-fits (is-dec (is-finished σ q)); elapsed-fits = elapsed-fits (is-dec (is-busy σ q)); eight = t .fit .size; statuses-fit = λ j. small j (decLe (suc j) (length σ)) }
+live-wordy σ good {q} v = record {
+  now-fits = now-fits (is-dec (is-finished σ q));
+  elapsed-fits = elapsed-fits (is-dec (is-busy σ q));
+  eight = t .fit .size;
+  statuses-fit = λ j. small j (decLe (suc j) (length σ));
+}
   where
     few : length σ ≤ 8
     few = good .few-jobs

@@ -7,15 +7,15 @@ use mathlib.Core.Logic.{_⊎_, inl, inr, _↔_}
 use mathlib.Core.List.{List, [], _∷_, map, List·Memᴰ, List·Memᴰ·head, List·Memᴰ·tail, List·Memᴰ·not-nil, List·Memᴰ·cases-cons, Memᴰ·map, Memᴰ·of-map}
 use lib.ListN.{length, length-map}
 use Rattle.plant.specs.Plant.{tick, Row, Safe, Live, at-start}
-use Rattle.plant.specs.Lists.{Number, Distinct}
-use Rattle.plant.specs.Search.{In}
+use Rattle.plant.specs.Number.{Number, Distinct}
+use Rattle.plant.specs.Range.{In}
 use Rattle.plant.specs.Marks.{Has, Code}
 use Rattle.plant.specs.MarkLaws.{starts-one, code-one, code-le, held-some}
 use Rattle.plant.specs.SafeLaws.{safe-live, safe-not-late}
 use Rattle.plant.specs.TableLaws.{row-safe}
-use Rattle.sheet.specs.Model.{Sheet, Good, State, initial, Possible, next, Late, digits-word, word, plant}
+use Rattle.sheet.specs.Model.{Sheet, Good, State, initial, Possible, next, Late, digits-word, word, plant, state-of}
 use Rattle.sheet.specs.Table.{Entry, at, Ascending, Entry-of, Rows}
-use Rattle.sheet.specs.Form.{state-of, In-order, Fits, Good-entry, Good-rows}
+use Rattle.sheet.specs.Form.{In-order, Fits, Good-entry, Good-rows}
 use Rattle.sheet.specs.WordLaws.{word-lt, state-of-word}
 use Rattle.sheet.specs.OrderLaws.{live-in-order, live-wordy}
 

@@ -9,14 +9,16 @@ use lib.Dec.{T, eqb, ltb}
 use Rattle.plant.specs.Plant.{Live, Row, Safe}
 use Rattle.plant.specs.Search.{T-and}
 use Rattle.plant.specs.Reflect.{Is, is-map, is-eq, is-le, is-and3, is-not}
-use Rattle.plant.specs.Lists.{all-of, all-each, Number, has, is-has}
+use Rattle.plant.specs.Number.{Number}
+use Rattle.plant.specs.Lists.{all-of, all-each, has, is-has}
 use Rattle.plant.specs.SafeLaws.{prune}
 use Rattle.plant.specs.Mask.{mask}
 use Rattle.plant.specs.MarkLaws.{starts-by, code-by, starts-right, code-right}
 use Rattle.plant.specs.Explore.{explore, not-late, among, live-list, pruned, safe-list, rows-among, whole, counted, live-right, is-safe-list, rows-right}
 use Rattle.sheet.specs.Model.{Job, Sheet, Good, State, initial, digits-word, word, plant}
 use Rattle.sheet.specs.Table.{Entry, Ascending, Entry-of, Rows}
-use Rattle.sheet.specs.ModelTests.{good, is-good}
+use Rattle.sheet.specs.ModelTestsRight.{is-good}
+use Rattle.sheet.specs.ModelTests.{good}
 use Rattle.sheet.specs.Obeys.{tests}
 
 -- The table ---------------------------------------------------------------------------------------------------------------
@@ -42,8 +44,9 @@ stars =
       sheet = j 0 2 4 7 ∷ j 1 1 2 4 ∷ [];
       live = 81;
       rows =
-          r 0 0 0 ∷ r 1 0 1 ∷ r 15 0 1 ∷ r 16777217 0 0 ∷ r 16777221 2 2 ∷ r 16777225 0 1 ∷ r 33554445 1 1 ∷ r 33554446 0 1 ∷ r 33619977 0 1 ∷ r 50331661 1 2
-          ∷ r 50331662 0 1 ∷ r 50397198 0 1 ∷ r 50462729 0 0 ∷ r 67174414 0 1 ∷ r 67239950 0 1 ∷ r 84017166 0 1 ∷ r 84082702 0 1 ∷ r 100859918 0 1 ∷ r 100925454 0 0 ∷ r 117702670 0 0 ∷ [];
+          r 0 0 0 ∷ r 1 0 1 ∷ r 15 0 1 ∷ r 16777217 0 0 ∷ r 16777221 2 2 ∷ r 16777225 0 1 ∷ r 33554445 1 1 ∷ r 33554446 0 1 ∷ r 33619977 0 1
+          ∷ r 50331661 1 2 ∷ r 50331662 0 1 ∷ r 50397198 0 1 ∷ r 50462729 0 0 ∷ r 67174414 0 1 ∷ r 67239950 0 1 ∷ r 84017166 0 1
+          ∷ r 84082702 0 1 ∷ r 100859918 0 1 ∷ r 100925454 0 0 ∷ r 117702670 0 0 ∷ [];
     }
     -- 8: impossible, though a lucky run meets both
     ∷ record { sheet = j 0 1 2 2 ∷ j 0 1 1 2 ∷ []; live = 28; rows = [] }
@@ -60,14 +63,14 @@ stars =
 -- The claim ---------------------------------------------------------------------------------------------------------------
 
 -- refusal 5 where there is no row, and else exactly these rows
-abbrev pub Verdict : Sheet → List Entry → Type 0
-Verdict σ [] = ¬ (Safe (plant σ) initial)
-Verdict σ (e ∷ l) = Rows σ (e ∷ l)
+abbrev pub Outcome : Sheet → List Entry → Type 0
+Outcome σ [] = ¬ (Safe (plant σ) initial)
+Outcome σ (e ∷ l) = Rows σ (e ∷ l)
 
 pub record Claim (x : Star) : Type 0 where
   pub good-form : Good (x .sheet)
   pub live-states : Number (Live (plant (x .sheet))) (x .live)
-  pub verdict : Verdict (x .sheet) (x .rows)
+  pub outcome : Outcome (x .sheet) (x .rows)
 
 -- The test ----------------------------------------------------------------------------------------------------------------
 
@@ -98,18 +101,23 @@ abbrev entry : Sheet → List State → State → Entry
 entry σ s q = record { word = word q; starts = starts-by (plant σ) (tests σ) (among (plant σ) (tests σ) s) q; tick = code-by (plant σ) (tests σ) (among (plant σ) (tests σ) s) q }
 
 abbrev rows-test : Sheet → List Entry → List State → List State → Bool
-rows-test σ l s qs = whole (plant σ) (tests σ) (among (plant σ) (tests σ) s) qs && ((all-of (λ q. has same-entry (entry σ s q) l) qs && all-of (λ e. has same-entry e (map (entry σ s) qs)) l) && ascends l)
+rows-test σ l s qs =
+    whole (plant σ) (tests σ) (among (plant σ) (tests σ) s) qs
+    && ((all-of (λ q. has same-entry (entry σ s q) l) qs && all-of (λ e. has same-entry e (map (entry σ s) qs)) l) && ascends l)
 
 -- enough steps for the largest of them
 abbrev steps : ℕ
 steps = 5000
 
-abbrev verdict-test : Sheet → List Entry → List State → Bool
-verdict-test σ [] s = not (among (plant σ) (tests σ) s initial)
-verdict-test σ (e ∷ l) s = rows-test σ (e ∷ l) s (rows-among (plant σ) (tests σ) steps s)
+abbrev outcome-test : Sheet → List Entry → List State → Bool
+outcome-test σ [] s = not (among (plant σ) (tests σ) s initial)
+outcome-test σ (e ∷ l) s = rows-test σ (e ∷ l) s (rows-among (plant σ) (tests σ) steps s)
 
 abbrev live-test : Star → List State → Bool
-live-test x l = whole (plant (x .sheet)) (tests (x .sheet)) (not-late (plant (x .sheet)) (tests (x .sheet))) l && (counted (plant (x .sheet)) (tests (x .sheet)) l (x .live) && verdict-test (x .sheet) (x .rows) (pruned (plant (x .sheet)) (tests (x .sheet)) l))
+live-test x l =
+    whole (plant (x .sheet)) (tests (x .sheet)) (not-late (plant (x .sheet)) (tests (x .sheet))) l
+    && (counted (plant (x .sheet)) (tests (x .sheet)) l (x .live)
+    && outcome-test (x .sheet) (x .rows) (pruned (plant (x .sheet)) (tests (x .sheet)) l))
 
 unfoldable star-test : Star → Bool
 star-test x = good (x .sheet) && live-test x (live-list (plant (x .sheet)) (tests (x .sheet)) steps)
@@ -137,8 +145,8 @@ module _ (σ : Sheet) (k : T (whole (plant σ) (tests σ) (not-late (plant σ) (
   rows-test-right : (l : List Entry) → T (rows-test σ l safes rows) → Rows σ l
   rows-test-right l t = record {
     ascending = ascends-right l (parts .2);
-    each = λ e m. each e (Memᴰ·of-map (entry σ safes) rows (is-has same-entry is-same-entry e (map (entry σ safes) rows) .holds (all-each (λ e. has same-entry e (map (entry σ safes) rows)) l (both .1) e m)));
-    every = λ q v. (entry σ safes q, is-has same-entry is-same-entry (entry σ safes q) l .holds (all-each (λ q. has same-entry (entry σ safes q) l) rows (both .0) q (met q .0 v)), entry-right q);
+    each = λ e m. each e (Memᴰ·of-map (entry σ safes) rows (in-entries e m));
+    every = λ q v. (entry σ safes q, in-l q (met q .0 v), entry-right q);
   }
     where
       first : Bool
@@ -165,16 +173,28 @@ module _ (σ : Sheet) (k : T (whole (plant σ) (tests σ) (not-late (plant σ) (
       met : (q : State) → Row (plant σ) q ↔ List·Memᴰ q rows
       met = rows-right (plant σ) (tests σ) steps k (parts .0)
 
+      in-entries : (e : Entry) → List·Memᴰ e l → List·Memᴰ e (map (entry σ safes) rows)
+      in-entries e m =
+          let found = all-each (λ e. has same-entry e (map (entry σ safes) rows)) l (both .1) e m in
+          is-has same-entry is-same-entry e (map (entry σ safes) rows) .holds found
+
+      in-l : (q : State) → List·Memᴰ q rows → List·Memᴰ (entry σ safes q) l
+      in-l q m = is-has same-entry is-same-entry (entry σ safes q) l .holds (all-each (λ q. has same-entry (entry σ safes q) l) rows (both .0) q m)
+
       each : (e : Entry) → (q : State) × List·Memᴰ q rows × (entry σ safes q ≡ e) → (q : State) × Row (plant σ) q × Entry-of σ q e
       each e w = (w .0, met (w .0) .1 (w .1), subst (Entry-of σ (w .0)) (w .2) (entry-right (w .0)))
 
-  verdict-right : (l : List Entry) → T (verdict-test σ l safes) → Verdict σ l
-  verdict-right [] t = is-not (is-safe-list (plant σ) (tests σ) steps k initial) .holds t
-  verdict-right (e ∷ l) t = rows-test-right (e ∷ l) t
+  outcome-right : (l : List Entry) → T (outcome-test σ l safes) → Outcome σ l
+  outcome-right [] t = is-not (is-safe-list (plant σ) (tests σ) steps k initial) .holds t
+  outcome-right (e ∷ l) t = rows-test-right (e ∷ l) t
 
 star-right : (x : Star) → T (star-test x) → Claim x
 unfolding star-test safe-list
-star-right x t = record { good-form = is-good σ .holds (outer .0); live-states = live-right (plant σ) (tests σ) steps (inner .0) (x .live) (rest .0); verdict = verdict-right σ (inner .0) (x .rows) (rest .1) }
+star-right x t = record {
+  good-form = is-good σ .holds (outer .0);
+  live-states = live-right (plant σ) (tests σ) steps (inner .0) (x .live) (rest .0);
+  outcome = outcome-right σ (inner .0) (x .rows) (rest .1);
+}
   where
     σ : Sheet
     σ = x .sheet
@@ -185,11 +205,20 @@ star-right x t = record { good-form = is-good σ .holds (outer .0); live-states 
     outer : T (good σ) × T (live-test x lives)
     outer = T-and (good σ) (live-test x lives) t
 
-    inner : T (whole (plant σ) (tests σ) (not-late (plant σ) (tests σ)) lives) × T (counted (plant σ) (tests σ) lives (x .live) && verdict-test σ (x .rows) (safe-list (plant σ) (tests σ) steps))
-    inner = T-and (whole (plant σ) (tests σ) (not-late (plant σ) (tests σ)) lives) (counted (plant σ) (tests σ) lives (x .live) && verdict-test σ (x .rows) (safe-list (plant σ) (tests σ) steps)) (outer .1)
+    first : Bool
+    first = whole (plant σ) (tests σ) (not-late (plant σ) (tests σ)) lives
 
-    rest : T (counted (plant σ) (tests σ) lives (x .live)) × T (verdict-test σ (x .rows) (safe-list (plant σ) (tests σ) steps))
-    rest = T-and (counted (plant σ) (tests σ) lives (x .live)) (verdict-test σ (x .rows) (safe-list (plant σ) (tests σ) steps)) (inner .1)
+    second : Bool
+    second = counted (plant σ) (tests σ) lives (x .live)
+
+    third : Bool
+    third = outcome-test σ (x .rows) (safe-list (plant σ) (tests σ) steps)
+
+    inner : T first × T (second && third)
+    inner = T-and first (second && third) (outer .1)
+
+    rest : T second × T third
+    rest = T-and second third (inner .1)
 
 pub starred : (x : Star) → List·Memᴰ x stars → Claim x
 starred x m = star-right x (all-each star-test stars tested x m)

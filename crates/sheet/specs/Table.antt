@@ -12,9 +12,12 @@ pub record Entry : Type 0 where
   pub starts : ℕ
   pub tick : ℕ
 
--- the entry at place `i`, from 0
+-- the entry at place `i`, from 0; what stands past the last is no entry
+abbrev pub no-entry : Entry
+no-entry = record { word = 0; starts = 0; tick = 0 }
+
 abbrev pub at : List Entry → ℕ → Entry
-at l i = getD l i (record { word = 0; starts = 0; tick = 0 })
+at l i = getD l i no-entry
 
 -- "in strictly ascending order of word"
 abbrev pub Ascending : List Entry → Type 0

@@ -7,8 +7,7 @@ use mathlib.Core.List.{List, [], _∷_}
 use lib.Arith.{mod-mul}
 use lib.ListN.{getD, length}
 use lib.Dec.{lit<}
-use Rattle.sheet.specs.Model.{State, digits-word, word}
-use Rattle.sheet.specs.Form.{digits, state-of}
+use Rattle.sheet.specs.Model.{State, digits-word, word, digits, state-of}
 
 -- what a word can hold: a byte for now and for elapsed, eight statuses of two bits
 pub record Wordy (q : State) : Type 0 where
@@ -68,9 +67,6 @@ digits-below (suc k) h v =
 -- the word of the state of a word is the word
 pub word-of-state : (w : ℕ) → w < 2 ^ 32 → word (state-of w) ≡ w
 word-of-state w h = rw (word-of-digits 8 w) (omega arith)
-
-pub state-of-wordy : (w : ℕ) → w < 2 ^ 32 → Wordy (state-of w)
-state-of-wordy w h = record { now-fits = omega arith; elapsed-fits = omega arith; eight = length-digits 8 w; statuses-fit = digits-lt 8 w }
 
 module _ (q : State) (f : Wordy q) where
   statuses-lt : digits-word (q .statuses) < 65536

@@ -8,8 +8,7 @@ use lib.Bits.{bitOr, bitAnd, or-shifted, and-mask}
 use lib.Dec.{lit≤}
 use lib.ListN.{length, getD, take, drop, set, length-drop, drop-of-length-le}
 use lib.Seq.{drop-cons, take-suc-set, take-all}
-use Rattle.sheet.specs.Model.{digits-word}
-use Rattle.sheet.specs.Form.{digits}
+use Rattle.sheet.specs.Model.{digits-word, digits}
 use Rattle.state.specs.Clocks.{Known}
 use Rattle.state.specs.WordBack.{statuses-lt}
 

@@ -58,7 +58,8 @@ byte-event x e h = go (eqb x 0) (is-eq x 0 .holds) (within 1 8 x) (is-within 1 8
     is : (d : plant.Event) → some d ≡ some e → Named 8 d × (byte-of d ≡ x) → Named 8 e × (byte-of e ≡ x)
     is d q w = let p : d ≡ e = cc in subst (λ (f : plant.Event). Named 8 f × (byte-of f ≡ x)) p w
 
-    go : (t : Bool) → (T t → x ≡ 0) → (a : Bool) → (T a → (1 ≤ x) × (x ≤ 8)) → (s : Bool) → (T s → (17 ≤ x) × (x ≤ 24)) → (n : Bool) → (T n → (33 ≤ x) × (x ≤ 40))
+    go : (t : Bool) → (T t → x ≡ 0) → (a : Bool) → (T a → (1 ≤ x) × (x ≤ 8))
+        → (s : Bool) → (T s → (17 ≤ x) × (x ≤ 24)) → (n : Bool) → (T n → (33 ≤ x) × (x ≤ 40))
         → kind-of (cond t Tick (cond a (Arrival x) (cond s (Start (x - 16)) (cond n (Ending (x - 32)) Nothing)))) ≡ some e → Named 8 e × (byte-of e ≡ x)
     go true f a g s k n l q = is plant.tick q (tt, sym (f tt))
     go false f true g s k n l q = is (plant.arrival x) q (g tt, refl)

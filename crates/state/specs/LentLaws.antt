@@ -10,7 +10,7 @@ use Rattle.sheet.specs.Arrays.{sheet-of, arrays}
 use Rattle.state.specs.Lent.{Whole-jobs, lent, Jobs-in}
 use Rattle.state.specs.Lowest.{lowest-bad}
 use Rattle.state.specs.LowestLaws.{is-lowest-bad, good-sheet}
-use Rattle.state.specs.SheetLaws.{length-sheet}
+use Rattle.sheet.specs.ArraysLaws.{length-sheet}
 
 pub jobs-none : (most : ℕ) (numbers : List ℕ) (r : ℕ) → Jobs-in most (length numbers) r → r ≡ 0 → ¬ (Whole-jobs most numbers)
 jobs-none most numbers r (inl x) e s = x .1 (s .whole, s .some, s .few)

@@ -10,6 +10,5 @@ pub mod EventLaws
 pub mod BitLaws
 pub mod WordBack
 pub mod Tell
-pub mod SheetLaws
 pub mod LowestLaws
 pub mod LentLaws

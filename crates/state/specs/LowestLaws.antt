@@ -8,12 +8,12 @@ use mathlib.Core.Bool.{Bool, true, false, cond}
 use mathlib.Core.List.{List, []}
 use lib.ListN.{length, getD}
 use lib.Dec.{eqb, eqb·suc-zero}
-use Rattle.plant.specs.Search.{In}
+use Rattle.plant.specs.Range.{In}
 use Rattle.plant.specs.Reflect.{Is, is-map, is-le, is-and, is-and3, is-not, is-dec, stable}
 use Rattle.sheet.specs.Model.{Job, Sheet, job, Good-job, Good}
 use Rattle.sheet.specs.Arrays.{job-of, sheet-of}
 use Rattle.state.specs.Lowest.{lowest, good, lowest-bad}
-use Rattle.state.specs.SheetLaws.{length-sheet, job-suc}
+use Rattle.sheet.specs.ArraysLaws.{length-sheet, job-suc}
 
 -- `r` is the lowest of 1, .., n of which `P` holds, or 0 and there is none
 pub record Lowest-of (n : ℕ) (P : ℕ → Type 0) (r : ℕ) : Type 0 where

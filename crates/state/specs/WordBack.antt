@@ -2,13 +2,12 @@
 use Prim.Native.Nat.{ℕ, zero, suc, _/_, _%_, _^_, _<_, _≤_}
 use native.Mathlib.Nat.{pow-succ', div-div-eq-div-mul}
 use native.Mathlib.Omega.{arith}
-use mathlib.Core.Path.{_≡_, sym, ap, subst}
+use mathlib.Core.Path.{_≡_}
 use mathlib.Core.List.{List}
 use lib.ListN.{length, getD}
-use Rattle.sheet.specs.Model.{State, digits-word, word}
-use Rattle.sheet.specs.Form.{digits, state-of}
-use Rattle.sheet.specs.WordLaws.{digits-word-lt, digits-lt, state-of-word}
-use Rattle.state.specs.Clocks.{Known, model}
+use Rattle.sheet.specs.Model.{State, digits-word, word, digits, state-of}
+use Rattle.sheet.specs.WordLaws.{digits-word-lt, state-of-word}
+use Rattle.state.specs.Clocks.{Known}
 use Rattle.state.specs.declared.word.State as by-value
 
 -- the digit at j
@@ -25,7 +24,3 @@ statuses-lt n l h k = digits-word-lt n l h (λ j. omega (arith, k j))
 -- the state of the word of a state is the state
 pub state-back : (q : State) → q .now ≤ 255 → q .elapsed ≤ 255 → length (q .statuses) ≡ 8 → Known (q .statuses) → state-of (word q) ≡ q
 state-back q n e l k = state-of-word q (record { now-fits = omega arith; elapsed-fits = omega arith; eight = l; statuses-fit = λ j. omega (arith, k j) })
-
--- a state by value that stands for the state of a word has known statuses
-pub state-known : (s : by-value.State) (w : ℕ) → model s ≡ state-of w → Known (s .statuses)
-state-known s w e = subst Known (sym (ap (λ (q : State). q .statuses) e)) (λ j. omega (arith, digits-lt 8 w j))

@@ -1,10 +1,9 @@
 // A job's bit in a byte of starts, and a job's two bits in a state word, by shifts and masks. Jobs are counted from 1.
 ghost use mathlib.Core.Path.{_≡_};
-ghost use Rattle.plant.specs.Search.{In};
+ghost use Rattle.plant.specs.Range.{In};
 ghost use Rattle.plant.specs.Marks.{Has};
 ghost use Rattle.plant.specs.Reflect.{Is};
-ghost use Rattle.sheet.specs.Model.{status};
-ghost use Rattle.sheet.specs.Form.{state-of};
+ghost use Rattle.sheet.specs.Model.{status, state-of};
 ghost use Rattle.state.specs.Bits.{with-start};
 
 // Whether the byte of starts has job k: bit k − 1 stands for it.

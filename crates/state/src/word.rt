@@ -1,7 +1,6 @@
 // A state by value, and its word.
 ghost use mathlib.Core.Path.{_≡_};
-ghost use Rattle.sheet.specs.Model.{word};
-ghost use Rattle.sheet.specs.Form.{state-of};
+ghost use Rattle.sheet.specs.Model.{word, state-of};
 ghost use Rattle.state.specs.Clocks.{Known, model};
 
 // Ticks since the running job's start. A start and an ending set this clock back.

@@ -7,17 +7,17 @@ use mathlib.Core.List.{List, _++_, map}
 use lib.ListN.{length, getD, take, drop, length-take, length-drop, length-append, List·getD-append, List·getD-eq-default}
 use lib.Seq.{take-at, drop-at, take-all, getD-append-add}
 use Rattle.sheet.specs.Model.{Sheet}
-use Rattle.sheet.specs.Table.{Entry, at}
+use Rattle.sheet.specs.Table.{Entry, at, no-entry}
 use Rattle.sheet.specs.Form.{Good-entry, Good-rows}
 use Rattle.blocks.specs.Sizes.{block-bytes, block-slots, slot-bytes}
-use Rattle.blocks.specs.Bytes.{u32-at}
-use Rattle.blocks.specs.BytesLaws.{Each-byte, Stands}
+use Rattle.blocks.specs.Bytes.{u32-at, Each-byte}
+use Rattle.blocks.specs.BytesLaws.{Stands}
 use Rattle.blocks.specs.File.{row-slot, block-of, block-for}
 use Rattle.blocks.specs.Fields.{slot-at, row-from}
 use Rattle.blocks.specs.Held.{tab}
 use Rattle.blocks.specs.TabLaws.{length-tab, getD-tab}
 use Rattle.blocks.specs.BlockLaws.{slot-of, framed}
-use Rattle.blocks.specs.SlotLaws.{no-entry, rows-made}
+use Rattle.blocks.specs.SlotLaws.{rows-made}
 use Rattle.form.specs.BlockTest.{Rows-block}
 use Rattle.table.specs.Reading.{total, block-at, Sized, Reads, Good-to}
 use Rattle.table.specs.ReadingLaws.{at-block, row-at, part, length-part, room, stretch, rows-count, row-there, same-jobs, reads-down}

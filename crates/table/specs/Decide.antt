@@ -8,10 +8,10 @@ use mathlib.Core.List.{List}
 use lib.ListN.{length, getD, take, List·getD-eq-default}
 use Rattle.plant.specs.Plant.{tick, start}
 use Rattle.plant.specs.Reflect.{is-dec}
-use Rattle.sheet.specs.Model.{Job, Sheet, Names, job, State, status, Possible, next}
-use Rattle.sheet.specs.ModelTests.{is-good-job, is-possible, is-late, dec-finished}
+use Rattle.sheet.specs.Model.{Job, Sheet, Names, job, State, status, Possible, next, digits, state-of}
+use Rattle.sheet.specs.ModelTestsRight.{is-good-job, is-possible, is-late, dec-finished}
 use Rattle.sheet.specs.Table.{Entry}
-use Rattle.sheet.specs.Form.{digits, state-of, Timely, Under-way, In-order, Fits, Good-entry}
+use Rattle.sheet.specs.Form.{Timely, Under-way, In-order, Fits, Good-entry}
 use Rattle.blocks.specs.Sizes.{block-bytes, body-bytes, block-slots, slot-bytes, most-jobs, letter-t, letter-b}
 use Rattle.blocks.specs.Bytes.{u16-at, u32-at, check-of}
 use Rattle.blocks.specs.Fields.{Lettered, Framed, slot-at, job-from, row-from}

@@ -11,7 +11,7 @@ use Rattle.sheet.specs.Model.{Sheet}
 use Rattle.sheet.specs.Table.{Entry, at}
 use Rattle.sheet.specs.Arrays.{sheet-of}
 use Rattle.blocks.specs.Sizes.{block-bytes}
-use Rattle.blocks.specs.BytesLaws.{Each-byte}
+use Rattle.blocks.specs.Bytes.{Each-byte}
 use Rattle.blocks.specs.Fields.{slot-at, job-from}
 use Rattle.blocks.specs.TabLaws.{length-tab}
 use Rattle.form.specs.BlockTest.{Rows-block, Jobs-block, fours}

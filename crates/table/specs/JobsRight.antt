@@ -5,18 +5,18 @@ use mathlib.Core.Path.{_≡_, refl, sym, ap, _∙_}
 use mathlib.Core.List.{List, []}
 use lib.ListN.{length, getD}
 use lib.Seq.{ext-getD}
-use Rattle.sheet.specs.Model.{Job}
+use Rattle.sheet.specs.Model.{Job, no-job}
 use Rattle.sheet.specs.Table.{at}
 use Rattle.sheet.specs.Arrays.{job-of, sheet-of}
-use Rattle.state.specs.SheetLaws.{length-sheet, job-suc}
+use Rattle.sheet.specs.ArraysLaws.{length-sheet, job-suc}
 use Rattle.blocks.specs.Sizes.{slot-bytes, most-jobs}
-use Rattle.blocks.specs.BytesLaws.{Each-byte}
+use Rattle.blocks.specs.Bytes.{Each-byte}
 use Rattle.blocks.specs.File.{job-slot, block-for}
 use Rattle.blocks.specs.Fields.{slot-at, job-from}
 use Rattle.blocks.specs.Held.{tab}
 use Rattle.blocks.specs.TabLaws.{length-tab, getD-tab}
 use Rattle.blocks.specs.BlockLaws.{framed}
-use Rattle.blocks.specs.SlotLaws.{no-job, jobs-made}
+use Rattle.blocks.specs.SlotLaws.{jobs-made}
 use Rattle.form.specs.BlockTest.{Jobs-block, four-at, fours}
 use Rattle.table.specs.Reading.{total, block-at, Sized, Reads, Good-to}
 use Rattle.table.specs.ReadingLaws.{jobs-count, job-there}

@@ -12,9 +12,8 @@ use mir.Syntax.{w32}
 use mir.Val.{SFits}
 use borrow.Author.Tests.{le-ltb, le-leb, lt-leb, eq-eqb, ne-eqb}
 use Rattle.plant.specs.Reflect.{is-le, is-and, is-true, is-false}
-use Rattle.sheet.specs.Model.{Job, Sheet, Names, job, Good-job, status}
+use Rattle.sheet.specs.Model.{Job, Sheet, Names, job, Good-job, status, state-of}
 use Rattle.sheet.specs.ModelTests.{named}
-use Rattle.sheet.specs.Form.{state-of}
 use Rattle.sheet.specs.Table.{Entry}
 use Rattle.table.specs.Reading.{good, Says}
 use Rattle.table.specs.Places.{Finds}

@@ -1,6 +1,7 @@
 -- A table file read.
 -- A reader believes these:
 pub mod Reading
+pub mod Read
 pub mod Replies
 pub mod Judging
 pub mod Places
@@ -11,7 +12,8 @@ pub mod BlockRight
 pub mod JobsRight
 pub mod FileRight
 pub mod Decide
-pub mod OneReading
+pub mod SomeReading
+pub mod ReadLaws
 pub mod TableBytes
 pub mod PlaceLaws
 pub mod RowLaws

@@ -7,14 +7,13 @@ use mathlib.Core.List.{List}
 use lib.ListN.{length, getD, set, List·getD-eq-default}
 use lib.Seq.{ext-getD, getD-set-same, getD-set-other}
 use borrow.Author.Tests.{le-leb, lt-leb}
-use Rattle.sheet.specs.Model.{Job, Sheet}
+use Rattle.sheet.specs.Model.{Job, Sheet, no-job}
 use Rattle.sheet.specs.Table.{Entry, at}
 use Rattle.blocks.specs.Sizes.{header-bytes}
 use Rattle.blocks.specs.Bytes.{u16-at, u32-at}
 use Rattle.blocks.specs.Fields.{slot-at, job-from, row-from}
 use Rattle.blocks.specs.Held.{tab}
 use Rattle.blocks.specs.TabLaws.{length-tab, getD-tab}
-use Rattle.blocks.specs.SlotLaws.{no-job}
 use Rattle.table.specs.Reading.{block-at, good, Says}
 use Rattle.table.specs.ReadingLaws.{in-first, jobs-framed, job-there}
 use Rattle.table.specs.Places.{place}

@@ -7,15 +7,15 @@ use mathlib.Core.Logic.{inl, inr}
 use mathlib.Core.List.{List, [], _∷_}
 use lib.ListN.{length, getD, take, drop, length-take, length-drop}
 use lib.Seq.{ext-getD, getD-take, getD-drop, take-take}
-use Rattle.sheet.specs.Model.{Sheet}
-use Rattle.sheet.specs.Table.{Entry, at}
+use Rattle.sheet.specs.Model.{Sheet, no-job}
+use Rattle.sheet.specs.Table.{Entry, at, no-entry}
 use Rattle.sheet.specs.Form.{Good-rows}
 use Rattle.blocks.specs.Sizes.{block-bytes, body-bytes, header-bytes, block-slots, slot-bytes}
 use Rattle.blocks.specs.Bytes.{u16-at, u32-at}
 use Rattle.blocks.specs.File.{job-slot, row-slot, block-for}
 use Rattle.blocks.specs.Fields.{Framed, slot-at, job-from, row-from}
 use Rattle.blocks.specs.BlockLaws.{framed}
-use Rattle.blocks.specs.SlotLaws.{no-job, no-entry, job-found, row-found}
+use Rattle.blocks.specs.SlotLaws.{job-found, row-found}
 use Rattle.table.specs.Reading.{total, block-at, Sized, Reads, Good-to, Reading, good, bad, Says}
 
 -- a byte of a block, where it lies in the file

@@ -6,12 +6,10 @@ use mathlib.Core.List.{List, [], _∷_}
 use lib.ListN.{length, getD, replicate}
 use lib.Dec.{eqb, leb}
 use lib.IntN.{ℤ, pos, _+ℤ_, _-ℤ_}
-use Rattle.sheet.specs.Model.{Job, Sheet, job, status}
+use Rattle.sheet.specs.Model.{Job, Sheet, job, status, state-of, no-job}
 use Rattle.sheet.specs.ModelTests.{named}
-use Rattle.sheet.specs.Form.{state-of}
 use Rattle.sheet.specs.Table.{Entry, at}
 use Rattle.blocks.specs.Held.{tab}
-use Rattle.blocks.specs.SlotLaws.{no-job}
 use Rattle.table.specs.Reading.{Reading, good, bad, Says}
 use Rattle.table.specs.declared.row.RowReply.{RowReply}
 use Rattle.table.specs.declared.listing.ListingReply.{ListingReply}

@@ -4,20 +4,16 @@ use native.Mathlib.Omega.{arith}
 use native.Mathlib.Decide.{decLt}
 use mathlib.Core.Path.{_≡_, refl, sym, _∙_}
 use mathlib.Core.List.{List, _++_}
-use lib.ListN.{length, take, drop, length-drop, length-append}
+use lib.ListN.{length, take, drop, length-drop}
 use lib.Seq.{drop-at, take-all, take-append-le, drop-append-le, take-add}
 use Rattle.sheet.specs.Model.{Sheet}
 use Rattle.sheet.specs.Table.{Entry, at}
 use Rattle.blocks.specs.Sizes.{block-bytes, block-slots}
 use Rattle.blocks.specs.File.{block-for, written, blocks-of, bytes-of}
-use Rattle.blocks.specs.FileLaws.{length-written, length-bytes}
+use Rattle.blocks.specs.FileLaws.{length-block, length-written, length-bytes}
 use Rattle.table.specs.Reading.{Table, total, block-at, good, Says}
 
 module _ (t : ℕ) (σ : Sheet) (rows : List Entry) (few : length σ ≤ block-slots) where
-  length-block : (k : ℕ) → length (block-for t σ rows k) ≡ block-bytes
-  unfolding written
-  length-block k = omega (arith, length-written t σ rows few k, length-written t σ rows few (suc k), length-append (written t σ rows k) (block-for t σ rows k))
-
   pub block-written : (k b : ℕ) → b < k → block-at (written t σ rows k) b ≡ block-for t σ rows b
   unfolding written
   block-written zero b h = absurd (omega arith)
@@ -34,7 +30,7 @@ module _ (t : ℕ) (σ : Sheet) (rows : List Entry) (few : length σ ≤ block-s
           rw (drop-append-le (block-bytes * b) W (block-for t σ rows k) a, take-append-le block-bytes (drop (block-bytes * b) W) (block-for t σ rows k) c) (f l)
       go (no n) f =
           let e : b ≡ k = omega arith in
-          rw (e, drop-at W (block-for t σ rows k) (block-bytes * k) (length-written t σ rows few k)) (take-all block-bytes (block-for t σ rows k) (omega (arith, length-block k)))
+          rw (e, drop-at W (block-for t σ rows k) (block-bytes * k) (length-written t σ rows few k)) (take-all block-bytes (block-for t σ rows k) (omega (arith, length-block t σ rows few k)))
 
   -- a file whose blocks are these is these
   pub blocks-written : (file : List ℕ) (k : ℕ) → ((b : ℕ) → b < k → block-at file b ≡ block-for t σ rows b) → take (block-bytes * k) file ≡ written t σ rows k

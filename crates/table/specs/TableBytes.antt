@@ -5,19 +5,18 @@ use mathlib.Core.Path.{_≡_, refl, sym, subst}
 use mathlib.Core.List.{List, [], _∷_, _++_, map}
 use lib.ListN.{length, getD, drop, replicate, length-append, length-map, length-take, length-drop}
 use lib.Dec.{lit<}
-use Rattle.sheet.specs.Model.{Sheet}
-use Rattle.sheet.specs.Table.{Entry, at}
+use Rattle.sheet.specs.Model.{Sheet, no-job}
+use Rattle.sheet.specs.Table.{Entry, at, no-entry}
 use Rattle.blocks.specs.Sizes.{body-bytes, header-bytes, block-slots, slot-bytes, most-blocks}
-use Rattle.blocks.specs.Bytes.{le16, le32, check-of}
-use Rattle.blocks.specs.BytesLaws.{Each-byte}
+use Rattle.blocks.specs.Bytes.{le16, le32, check-of, Each-byte}
 use Rattle.blocks.specs.CheckLaws.{check-le}
 use Rattle.blocks.specs.File.{joined, header, body-of, sealed, block-of, job-slot, row-slot, block-for, written, blocks-of, bytes-of}
 use Rattle.blocks.specs.BlockLaws.{block-length}
-use Rattle.blocks.specs.SlotLaws.{no-job, no-entry}
 use Rattle.table.specs.Reading.{Table, good}
 use Rattle.table.specs.ReadingLaws.{part, room, at-part, says-one}
 use Rattle.table.specs.RoundTrip.{table-says, says-table}
-use Rattle.table.specs.OneReading.{reading, says-reading, reading-says}
+use Rattle.table.specs.Read.{reading}
+use Rattle.table.specs.ReadLaws.{says-reading, reading-says}
 
 bytes-both : (a b : List ℕ) → Each-byte a → Each-byte b → Each-byte (a ++ b)
 bytes-both [] b h k i = k i

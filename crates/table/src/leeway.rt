@@ -3,7 +3,7 @@ ghost use mathlib.Core.Path.{_≡_};
 ghost use Prim.Native.Nat.{_≤_, _+_};
 ghost use Rattle.table.specs.Judging.{Judged};
 ghost use Rattle.table.specs.Replies.{Answers, ticks-left, no-leeway, leeway-reply};
-ghost use Rattle.table.specs.OneReading.{reading};
+ghost use Rattle.table.specs.Read.{reading};
 use crate::judge::Verdict;
 use crate::judge::judge;
 use crate::place::Found;

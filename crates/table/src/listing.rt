@@ -7,7 +7,7 @@ ghost use Rattle.blocks.specs.Bytes.{u16-at};
 ghost use Rattle.blocks.specs.Held.{tab};
 ghost use Rattle.table.specs.Judging.{Judged};
 ghost use Rattle.table.specs.Replies.{Answers, unlisted, listing-reply};
-ghost use Rattle.table.specs.OneReading.{reading};
+ghost use Rattle.table.specs.Read.{reading};
 use crate::judge::Verdict;
 use crate::judge::judge;
 use crate::place::count_rows;

@@ -9,7 +9,7 @@ ghost use Rattle.blocks.specs.Sizes.{slot-bytes, most-rows};
 ghost use Rattle.blocks.specs.Fields.{row-from};
 ghost use Rattle.table.specs.Reading.{Reads};
 ghost use Rattle.table.specs.Replies.{Answers, told, lookup, row-reply};
-ghost use Rattle.table.specs.OneReading.{reading};
+ghost use Rattle.table.specs.Read.{reading};
 ghost use Rattle.table.specs.Places.{place, Read-rows, Good-file};
 use crate::judge::Verdict;
 use crate::judge::judge;

@@ -4,7 +4,7 @@ use native.Mathlib.Omega.{arith}
 use mathlib.Core.Path.{_≡_, refl}
 use mathlib.Core.List.{List, [], _∷_, _++_}
 use Rattle.sheet.specs.Table.{Entry}
-use Rattle.sheet.specs.Form.{digits}
+use Rattle.sheet.specs.Model.{digits}
 use Rattle.blocks.specs.File.{joined}
 use Rattle.lines.specs.Words.{bytes}
 use Rattle.lines.specs.Digits.{digit, value-on, last-digits}
@@ -18,7 +18,11 @@ one-digit d h = record { some = omega arith; few = omega arith; digits = λ i l.
 
 pub input : Spells (bytes "0 1 1 1\n") (0 ∷ 1 ∷ 1 ∷ 1 ∷ [])
 unfolding value-on run
-input = let one = one-digit 1 (omega arith) in run-spells (bytes "0 1 1 1\n") (bytes "0" ∷ bytes "1" ∷ bytes "1" ∷ bytes "1" ∷ []) 1 refl refl (omega arith) (omega arith) (one-digit 0 (omega arith), (one, (one, (one, tt))))
+input =
+    let zero = one-digit 0 (omega arith) in
+    let one = one-digit 1 (omega arith) in
+    run-spells (bytes "0 1 1 1\n") (bytes "0" ∷ bytes "1" ∷ bytes "1" ∷ bytes "1" ∷ []) 1 refl refl (omega arith) (omega arith)
+    (zero, (one, (one, (one, tt))))
 
 abbrev row : ℕ → ℕ → ℕ → Entry
 row word starts tick = record { word = word; starts = starts; tick = tick }

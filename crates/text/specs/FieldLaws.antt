@@ -78,7 +78,8 @@ module _ (s : List ℕ) (k v : ℕ) (p : Passed s k v) where
           omega (arith, f (omega (arith, size)) (ap (λ (i : ℕ). getD s i 0) (sym x) ∙ last), m .some)
 
   -- the byte that stands here is neither the one behind a number, nor one digit more
-  pub passed-other : (b e : ℕ) → getD s k 0 ≡ b → ¬ (Digit e) → (b ≡ e → k < 1) → (Digit b → 3 ≤ k) → (number rest : List ℕ) → Number number → ¬ (s ≡ number ++ (e ∷ rest))
+  pub passed-other : (b e : ℕ) → getD s k 0 ≡ b → ¬ (Digit e) → (b ≡ e → k < 1) → (Digit b → 3 ≤ k)
+      → (number rest : List ℕ) → Number number → ¬ (s ≡ number ++ (e ∷ rest))
   passed-other b e h n f g = passed-nothing e n (λ _ q. f (sym h ∙ q)) (λ _ d. g (subst (λ (x : ℕ). Digit x) h d))
 
   -- no byte stands here

@@ -27,7 +27,13 @@ pub flat-run : (k : ℕ) → k % 4 ≡ 0 → (l : List Four) → joined (map (λ
 unfolding flat joined line run
 flat-run k h [] = refl
 flat-run k h (f ∷ l) =
-    rw (ending-space k (λ e. omega arith), ending-space (suc k) (λ e. omega arith), ending-space (suc (suc k)) (λ e. omega arith), ending-line (suc (suc (suc k))) (omega arith), ← flat-run (suc (suc (suc (suc k)))) (omega arith) l)
+    rw (
+      ending-space k (λ e. omega arith),
+      ending-space (suc k) (λ e. omega arith),
+      ending-space (suc (suc k)) (λ e. omega arith),
+      ending-line (suc (suc (suc k))) (omega arith),
+      ← flat-run (suc (suc (suc (suc k)))) (omega arith) l,
+    )
     (simp append-assoc)
 
 pub flat-values : (l : List Four) → joined (map (λ f. map value (fields f)) l) ≡ map value (flat l)
@@ -45,10 +51,11 @@ unfolding flat
 flat-each [] e = tt
 flat-each (f ∷ l) e =
     let m : List·Memᴰ f (f ∷ l) = List·Memᴰ·head refl in
-    let rest = flat-each l (λ g i. e g (List·Memᴰ·tail i)) in (
-      e f m (f .arrives) (List·Memᴰ·head refl),
-      (e f m (f .fewest) (List·Memᴰ·tail (List·Memᴰ·head refl)), (e f m (f .most) (List·Memᴰ·tail (List·Memᴰ·tail (List·Memᴰ·head refl))), (e f m (f .due) (List·Memᴰ·tail (List·Memᴰ·tail (List·Memᴰ·tail (List·Memᴰ·head refl)))), rest))),
-    )
+    let rest = flat-each l (λ g i. e g (List·Memᴰ·tail i)) in
+    let second = e f m (f .fewest) (List·Memᴰ·tail (List·Memᴰ·head refl)) in
+    let third = e f m (f .most) (List·Memᴰ·tail (List·Memᴰ·tail (List·Memᴰ·head refl))) in
+    let fourth = e f m (f .due) (List·Memᴰ·tail (List·Memᴰ·tail (List·Memᴰ·tail (List·Memᴰ·head refl)))) in
+    (e f m (f .arrives) (List·Memᴰ·head refl), (second, (third, (fourth, rest))))
 
 -- a member of four
 in-four : (P : List ℕ → Type 0) (a b w d : List ℕ) → P a → P b → P w → P d → (s : List ℕ) → List·Memᴰ s (a ∷ b ∷ w ∷ d ∷ []) → P s

@@ -51,15 +51,6 @@ reads-one text r s (inl x) (inr y) = absurd (y .0 (x .0) (x .1))
 reads-one text r s (inr x) (inl y) = absurd (x .0 (y .0) (y .1))
 reads-one text r s (inr x) (inr y) = x .1 ∙ sym (y .1)
 
--- and there is room for its numbers
-pub reads-few : (text : List ℕ) (r : Parsed) → Reads text r → r .count ≤ most-numbers
-reads-few text r (inl x) =
-    let p = x .1 in
-    let n : length (x .0) ≡ length (flat (p .lines)) = ap length (p .values ∙ flat-values (p .lines)) ∙ length-map (flat (p .lines)) value in
-    let c : r .count ≡ length (x .0) = λ i. (x .2 i) .count in
-    omega (arith, flat-length (p .lines), p .few)
-reads-few text r (inr x) = let c : r .count ≡ 0 = λ i. (x .1 i) .count in omega arith
-
 -- Number after number -------------------------------------------------------------------------------------------------
 
 pub so-far-none : (text : List ℕ) → So-far text (replicate most-numbers 0) 0 0
@@ -78,7 +69,7 @@ module _ (text numbers : List ℕ) (count at : ℕ) (p : So-far text numbers cou
     many = length-append (p .read) (s ∷ []) ∙ ap (λ (n : ℕ). n + 1) (p .many);
     few = omega arith;
     within = omega (arith, f .within, length-drop at text);
-    front = p .front ∙ rw (run-snoc 0 (p .read) s, append-assoc (run 0 (p .read)) (s ++ (ending (0 + length (p .read)) ∷ [])) (drop (at + (k + 1)) text)) (ap (λ (x : List ℕ). run 0 (p .read) ++ x) behind);
+    front = p .front ∙ ahead;
     held = rw (p .held) stored;
   }
     where
@@ -89,13 +80,22 @@ module _ (text numbers : List ℕ) (count at : ℕ) (p : So-far text numbers cou
       place = zero-add (length (p .read)) ∙ p .many
 
       behind : drop at text ≡ (s ++ (ending (0 + length (p .read)) ∷ [])) ++ drop (at + (k + 1)) text
-      behind = f .ends ∙ (ap (λ (x : List ℕ). s ++ (ending count ∷ x)) (drop-drop (suc k) at text) ∙ (rw (place, add-one k) (sym (append-assoc s (ending count ∷ []) (drop (at + suc k) text)))))
+      behind =
+          f .ends
+          ∙ (ap (λ (x : List ℕ). s ++ (ending count ∷ x)) (drop-drop (suc k) at text)
+          ∙ (rw (place, add-one k) (sym (append-assoc s (ending count ∷ []) (drop (at + suc k) text)))))
+
+      ahead : run 0 (p .read) ++ drop at text ≡ run 0 (p .read ++ (s ∷ [])) ++ drop (at + (k + 1)) text
+      ahead =
+          let apart = append-assoc (run 0 (p .read)) (s ++ (ending (0 + length (p .read)) ∷ [])) (drop (at + (k + 1)) text) in
+          rw (run-snoc 0 (p .read) s, apart) (ap (λ (x : List ℕ). run 0 (p .read) ++ x) behind)
 
       stored : set (map value (p .read) ++ replicate (most-numbers - count) 0) count v ≡ map value (p .read ++ (s ∷ [])) ++ replicate (most-numbers - (count + 1)) 0
       stored =
           let e : most-numbers - count ≡ suc (most-numbers - (count + 1)) = omega arith in
           rw (e, map-append value (p .read) (s ∷ []), ← f .worth)
-          (set-at (map value (p .read)) 0 (replicate (most-numbers - (count + 1)) 0) v count (length-map (p .read) value ∙ p .many) ∙ sym (append-assoc (map value (p .read)) (v ∷ []) (replicate (most-numbers - (count + 1)) 0)))
+          (set-at (map value (p .read)) 0 (replicate (most-numbers - (count + 1)) 0) v count (length-map (p .read) value ∙ p .many)
+          ∙ sym (append-assoc (map value (p .read)) (v ∷ []) (replicate (most-numbers - (count + 1)) 0)))
 
   -- What a sheet would say of the rest: numbers, and four to a line in all.
   record Rest (n : ℕ) : Type 0 where

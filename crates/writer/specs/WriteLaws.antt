@@ -37,7 +37,8 @@ module _ {A : Type 0} (w : ℕ) (g : A → List ℕ) (wide : (a : A) → length 
       (ap length e ∙ (length-paste old 0 h header-bytes (omega arith) (omega arith) ∙ l), rw (e, z) (take-paste old 0 h header-bytes (omega arith) (omega arith)))
 
   -- one slot more
-  pub slot-turn : (s : ℕ) (old slot new : List ℕ) → header-bytes + w * used ≤ body-bytes → s < used → length old ≡ block-bytes → take (header-bytes + w * s) old ≡ so-far g n k total used f s
+  pub slot-turn : (s : ℕ) (old slot new : List ℕ) → header-bytes + w * used ≤ body-bytes → s < used
+      → length old ≡ block-bytes → take (header-bytes + w * s) old ≡ so-far g n k total used f s
       → slot ≡ g (f s) → new ≡ paste old (header-bytes + w * s) slot (length slot)
       → (length new ≡ block-bytes) × (take (header-bytes + w * (s + 1)) new ≡ so-far g n k total used f (s + 1))
   slot-turn s old slot new few h l t d e =
@@ -45,8 +46,9 @@ module _ {A : Type 0} (w : ℕ) (g : A → List ℕ) (wide : (a : A) → length 
       let x = mul-suc w s in
       let y : length slot ≡ w = ap length d ∙ wide (f s) in
       let z : header-bytes + w * (s + 1) ≡ header-bytes + w * s + length slot = rw (add-one s) (omega arith) in
+      let whole = take-all (length slot) slot (omega arith) in
       let p : take (header-bytes + w * s + length slot) new ≡ take (header-bytes + w * s) old ++ slot =
-      rw e (take-paste old (header-bytes + w * s) slot (length slot) (omega arith) (omega arith) ∙ ap (λ (r : List ℕ). take (header-bytes + w * s) old ++ r) (take-all (length slot) slot (omega arith))) in (
+      rw e (take-paste old (header-bytes + w * s) slot (length slot) (omega arith) (omega arith) ∙ ap (λ (r : List ℕ). take (header-bytes + w * s) old ++ r) whole) in (
         ap length e ∙ (length-paste old (header-bytes + w * s) slot (length slot) (omega arith) (omega arith) ∙ l),
         rw z (p ∙ (ap (λ (r : List ℕ). r ++ slot) t ∙ (ap (λ (r : List ℕ). so-far g n k total used f s ++ r) d ∙ sym (so-far-more s)))),
       )

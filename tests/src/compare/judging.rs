@@ -78,7 +78,7 @@ fn four_jobs(seed: u64, cases: usize) {
 
 /// The kinds that make is tried on, as far as the engine comes back soon.
 fn random_sheets(seed: u64, cases: usize) {
-    for (kind, times) in [(Kind::Tight, cases), (Kind::FewJobs, cases / 10)] {
+    for (kind, times) in [(Kind::Tight, cases), (Kind::FewJobs, (cases + 9) / 10)] {
         let mut group = Group::new(&format!("engine: random sheets, {:?}", kind));
         let mut random = Random::new(seed + 402 + kind as u64);
         for _ in 0..times {

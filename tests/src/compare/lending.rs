@@ -127,7 +127,7 @@ fn every_address_of_a_file(random: &mut Random) {
 fn steps_through_damage(cases: usize, random: &mut Random) {
     let mut group = Group::new("steps in damaged files and random bytes");
     let whole = file_of(&S2);
-    for turn in 0..cases / 4 {
+    for turn in 0..(cases + 3) / 4 {
         let damaged = match turn % 4 {
             0 => damage::random_bytes(random),
             1 => damage::bit_flipped(&whole, false, random),

@@ -54,7 +54,7 @@ impl Group {
         }
     }
 
-    /// Long contents: the first place where they differ is told.
+    /// Long contents: their lengths, or the first place where they differ, is told.
     pub fn same_items<T: PartialEq + Debug>(
         &mut self,
         describe: &dyn Fn() -> String,
@@ -62,6 +62,10 @@ impl Group {
         found: &[T],
         wanted: &[T],
     ) {
+        if found.len() != wanted.len() {
+            let why = format!("{}s are {}, not {}", what, found.len(), wanted.len());
+            self.mismatch(describe, why);
+        }
         let pairs = found.iter().zip(wanted);
         if let Some((at, (found, wanted))) = pairs.enumerate().find(|(_, pair)| pair.0 != pair.1) {
             let why = format!("{} {} is {:?}, not {:?}", what, at, found, wanted);
@@ -76,9 +80,12 @@ impl Group {
         self.mismatches += 1;
     }
 
+    /// A group without a case has failed: nothing was tried.
     pub fn close(self) {
         let name = format!("{} ({} cases)", self.name, self.cases);
-        let outcome = if self.mismatches == 0 {
+        let outcome = if self.cases == 0 {
+            Err("no case".to_string())
+        } else if self.mismatches == 0 {
             Ok(())
         } else {
             Err(format!("{} mismatches, the first: {}", self.mismatches, self.first))

@@ -97,7 +97,7 @@ fn damaged_files(random: &mut Random) {
     group.close();
 }
 
-/// The quick row at the end of each block and beside it, where each block in turn is bad.
+/// The quick row at the end of each block and beside it, where each block in turn is bad, and where none is.
 fn quick_ends(random: &mut Random) {
     let mut group = Group::new("quick row: around the end of each block, each block bad in turn");
     for rows in [1, SLOTS - 1, SLOTS, SLOTS + 1, 3 * SLOTS, 5 * SLOTS + 7] {
@@ -137,10 +137,8 @@ fn mixed_files(random: &mut Random) {
 }
 
 fn mix(group: &mut Group, one: &[u8], other: &[u8], random: &mut Random) {
-    if one.len() == other.len() {
-        for (turn, damaged) in damage::mixed(one, other).iter().enumerate() {
-            ask_damaged(group, damaged, turn, random);
-        }
+    for (turn, damaged) in damage::mixed(one, other).iter().enumerate() {
+        ask_damaged(group, damaged, turn, random);
     }
 }
 
@@ -162,17 +160,25 @@ fn random_damage(cases: usize, random: &mut Random) {
 fn random_rows(cases: usize, random: &mut Random) {
     let mut group = Group::new("a random row beside the start's row");
     for turn in 0..40 * cases {
-        let kind = *random.pick(&KINDS);
-        let sheet = Sheet::of_numbers(&sheets::of_kind(kind, random)).expect("good length");
-        let mut rows = foreign::table(&sheet, 2, random).rows;
-        if let Some(row) = rows.get_mut(1) {
-            disturb(row, random);
-        }
+        let (sheet, mut rows) = two_rows(random);
+        disturb(&mut rows[1], random);
         let file = write(&sheet, &rows);
-        let word = rows.last().map_or(0, |row| row.word);
-        ask(&mut group, "a random row", &file, vec![Question::Row { word }], turn);
+        let question = Question::Row { word: rows[1].word };
+        ask(&mut group, "a random row", &file, vec![question], turn);
     }
     group.close();
+}
+
+/// Sheets are drawn until one has a second row in order.
+fn two_rows(random: &mut Random) -> (Sheet, Vec<Row>) {
+    loop {
+        let kind = *random.pick(&KINDS);
+        let sheet = Sheet::of_numbers(&sheets::of_kind(kind, random)).expect("good length");
+        let rows = foreign::table(&sheet, 2, random).rows;
+        if rows.len() == 2 {
+            return (sheet, rows);
+        }
+    }
 }
 
 fn disturb(row: &mut Row, random: &mut Random) {

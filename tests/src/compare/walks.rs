@@ -16,15 +16,21 @@ pub fn run(seed: u64, cases: usize) {
     let mut random = Random::new(seed + 250);
     let mut group = Group::new("walks from the start");
     for turn in 0..cases {
-        let kind = *random.pick(&KINDS);
-        let numbers = sheets::of_kind(kind, &mut random);
-        if let Ok(table) = table_of(&numbers) {
-            if table.rows.len() < 2_000 {
-                walk(&mut group, &table, turn, &mut random);
-            }
-        }
+        let table = small_table(&mut random);
+        walk(&mut group, &table, turn, &mut random);
     }
     group.close();
+}
+
+/// Sheets are drawn until one has a table that is soon walked.
+fn small_table(random: &mut Random) -> Table {
+    loop {
+        let kind = *random.pick(&KINDS);
+        match table_of(&sheets::of_kind(kind, random)) {
+            Ok(table) if table.rows.len() < 2_000 => return table,
+            _ => {}
+        }
+    }
 }
 
 fn walk(group: &mut Group, table: &Table, turn: usize, random: &mut Random) {

@@ -4,7 +4,7 @@ use super::{block_mut, blocks_of, damaged, Damaged, Wanted};
 use crate::random::Random;
 use crate::second::file::{seal, BLOCK_BYTES, CHECK_AT};
 
-/// Two files of equally many jobs and blocks: each block of one in the other.
+/// Two files: each block that both have, that of one in the other.
 pub fn mixed(one: &[u8], other: &[u8]) -> Vec<Damaged> {
     let mix = |number: usize| {
         let mut copy = one.to_vec();
@@ -12,7 +12,7 @@ pub fn mixed(one: &[u8], other: &[u8]) -> Vec<Damaged> {
         copy[part.clone()].copy_from_slice(&other[part]);
         damaged(format!("block {} of another file", number), copy, Wanted::AsRead)
     };
-    (0..blocks_of(one)).map(mix).collect()
+    (0..blocks_of(one).min(blocks_of(other))).map(mix).collect()
 }
 
 /// One bit of one block changed: always found where the check is kept.

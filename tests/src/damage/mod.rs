@@ -76,9 +76,7 @@ fn changed(rule: &str, file: &[u8], block: usize, bytes: &[(usize, u8)]) -> Vec<
     for &(at, value) in bytes {
         block_mut(&mut kept, block)[at] = value;
     }
-    if kept == file {
-        return Vec::new();
-    }
+    assert!(kept != file, "block {}: {} changes nothing", block, rule);
     let mut repaired = kept.clone();
     seal(block_mut(&mut repaired, block));
     let name = |how: &str| format!("block {}: {}, check {}", block, rule, how);

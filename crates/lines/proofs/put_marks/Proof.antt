@@ -16,13 +16,17 @@ put-requires : tie.Need-put-requires
 put-requires c κs = let b = c .before .before .before .before .before .before .before in omega (arith, starts-length (b .args .n) (b .args .starts) (b .pre .0))
 
 put-tick-requires : tie.Need-put-tick-requires
-put-tick-requires c κs = let b = c .before .before .before .before .before .before .before .before .before .before .before in omega (arith, starts-length (b .args .n) (b .args .starts) (b .pre .0), tick-length (b .args .tick))
+put-tick-requires c κs =
+    let b = c .before .before .before .before .before .before .before .before .before .before .before in
+    omega (arith, starts-length (b .args .n) (b .args .starts) (b .pre .0), tick-length (b .args .tick))
 
 slice-aggregate-put-2 : tie.Need-slice-aggregate-put-2
 slice-aggregate-put-2 c = search needs
 
 put-requires-2 : tie.Need-put-requires-2
-put-requires-2 c κs = let b = c .before .before .before .before .before .before .before .before .before .before .before .before .before .before .before .before in omega (arith, starts-length (b .args .n) (b .args .starts) (b .pre .0), tick-length (b .args .tick))
+put-requires-2 c κs =
+    let b = c .before .before .before .before .before .before .before .before .before .before .before .before .before .before .before .before in
+    omega (arith, starts-length (b .args .n) (b .args .starts) (b .pre .0), tick-length (b .args .tick))
 
 same-length : tie.Need-same-length
 same-length c = search needs
@@ -30,7 +34,9 @@ same-length c = search needs
 returns : tie.Need-returns
 returns c =
     let d = c .before .before .before .before .before .before .before in
-    printed-then (d .before .before .before .before .before .before .before .before .before .put-starts .ensures) (printed-then (d .before .before .before .before .put .ensures) (printed-then (d .put-tick .ensures) (c .before .before .put2 .ensures)))
+    printed-then (d .before .before .before .before .before .before .before .before .before .put-starts .ensures)
+    (printed-then (d .before .before .before .before .put .ensures)
+    (printed-then (d .put-tick .ensures) (c .before .before .put2 .ensures)))
 
 pub put-marks-spec : {M : Type 1} → statement M
 put-marks-spec =

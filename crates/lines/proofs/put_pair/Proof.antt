@@ -21,7 +21,9 @@ slice-aggregate-put : tie.Need-slice-aggregate-put
 slice-aggregate-put c = search needs
 
 put-requires-3 : tie.Need-put-requires-3
-put-requires-3 c κs = omega (arith, c .before .before .before .before .before .before .before .before .before .before .before .before .before .before .before .before .before .before .before .before .before .pre)
+put-requires-3 c κs =
+    let d = c .before .before .before .before .before .before .before .before .before .before .before .before in
+    omega (arith, d .before .before .before .before .before .before .before .before .before .pre)
 
 same-length : tie.Need-same-length
 same-length c = search needs
@@ -30,7 +32,10 @@ returns : tie.Need-returns
 returns c =
     let d = c .before .before .before .before .before .before .before in
     let e = d .before .before .before .before .before .before .before .before in
-    printed-then (e .before .before .before .before .put .ensures) (printed-then (e .put-number .ensures) (printed-then (d .before .before .before .before .put2 .ensures) (printed-then (d .put-number2 .ensures) (c .before .before .put3 .ensures))))
+    printed-then (e .before .before .before .before .put .ensures)
+    (printed-then (e .put-number .ensures)
+    (printed-then (d .before .before .before .before .put2 .ensures)
+    (printed-then (d .put-number2 .ensures) (c .before .before .put3 .ensures))))
 
 pub put-pair-spec : {M : Type 1} → statement M
 put-pair-spec =

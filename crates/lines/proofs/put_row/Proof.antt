@@ -18,7 +18,8 @@ same-length c = search needs
 returns : tie.Need-returns
 returns c =
     let a = c .before .before .before .before .before .before .before .before .before .args in
-    rw (row-parts (a .n) (record { word = a .word; starts = a .starts; tick = a .tick })) (printed-then (c .before .before .before .before .before .before .put-state .ensures) (c .before .before .put-marks .ensures))
+    rw (row-parts (a .n) (record { word = a .word; starts = a .starts; tick = a .tick }))
+    (printed-then (c .before .before .before .before .before .before .put-state .ensures) (c .before .before .put-marks .ensures))
 
 pub put-row-spec : {M : Type 1} → statement M
 put-row-spec = tie.close (tie.spec put-state-requires put-marks-requires same-length returns)

@@ -1,9 +1,9 @@
 -- `put_state`: each piece stands behind the one before, and the state is that of the word. Assumes nothing.
-use Prim.Native.Nat.{_≤_}
+use Prim.Native.Nat.{ℕ, _≤_}
 use native.Mathlib.Omega.{arith}
 use mathlib.Core.Path.{_≡_, subst}
 use mathlib.Core.List.{map}
-use lib.ListN.{length, take}
+use lib.ListN.{length, getD, take}
 use Rattle.sheet.specs.Model.{State}
 use Rattle.state.specs.Clocks.{model}
 use Rattle.lines.specs.Digits.{digit, decimal}
@@ -25,6 +25,13 @@ module _ (c : tie.After-state-of) where
   third : length (map digit (take (c .before .before .args .n) (c .state-of .result .statuses))) ≡ c .before .before .args .n
   third = so-many-statuses (c .before .before .args .word) (search needs) (model (c .state-of .result)) (c .state-of .ensures) (c .before .before .args .n) (search needs)
 
+  known : (i : ℕ) → getD (c .state-of .result .statuses) i 0 ≤ 3
+  known = known-statuses (c .before .before .args .word) (search needs) (model (c .state-of .result)) (c .state-of .ensures)
+
+-- where the state was told, from behind its second number
+abbrev seen : tie.After-put-number2 → tie.After-state-of
+seen d = d .before .before .before .before .before .before .before .before .before .before .before .before .before .before
+
 state-of-requires : tie.Need-state-of-requires
 state-of-requires c κs = search needs
 
@@ -44,22 +51,29 @@ cast-put-number-2 : tie.Need-cast-put-number-2
 cast-put-number-2 c = search needs
 
 put-number-requires-2 : tie.Need-put-number-requires-2
-put-number-requires-2 c κs = let s = c .before .before .before .before .before .before .before .before .before .before .before .before .before in omega (arith, first s, second s)
+put-number-requires-2 c κs =
+    let s = c .before .before .before .before .before .before .before .before .before .before .before .before .before in
+    omega (arith, first s, second s)
 
 slice-aggregate-put-2 : tie.Need-slice-aggregate-put-2
 slice-aggregate-put-2 c = search needs
 
 put-requires-2 : tie.Need-put-requires-2
-put-requires-2 c κs = let s = c .before .before .before .before .before .before .before .before .before .before .before .before .before .before .before .before .before .before in omega (arith, first s, second s)
+put-requires-2 c κs = let s = seen (c .before .before .before .before) in omega (arith, first s, second s)
 
 put-statuses-requires : tie.Need-put-statuses-requires
-put-statuses-requires c κs = let s = c .before .before .before .before .before .before .before .before .before .before .before .before .before .before .before .before .before .before .before .before .before .before in (search needs, (known-statuses (s .before .before .args .word) (search needs) (model (s .state-of .result)) (s .state-of .ensures), omega (arith, first s, second s)))
+put-statuses-requires c κs =
+    let s = seen (c .before .before .before .before .before .before .before .before) in
+    (search needs, (known s, omega (arith, first s, second s)))
 
 slice-aggregate-put-3 : tie.Need-slice-aggregate-put-3
 slice-aggregate-put-3 c = search needs
 
 put-requires-3 : tie.Need-put-requires-3
-put-requires-3 c κs = let s = c .before .before .before .before .before .before .before .before .before .before .before .before .before .before .before .before .before .before .before .before .before .before .before .before .before .before .before in omega (arith, first s, second s, third s, s .before .before .pre, s .before .before .fits, c .before .before .before .before .before .before .before .before .before .before .before .before .before)
+put-requires-3 c κs =
+    let d = c .before .before .before .before .before .before .before .before .before .before .before .before .before in
+    let s = seen d in
+    omega (arith, first s, second s, third s, s .before .before .pre, s .before .before .fits, d)
 
 same-length : tie.Need-same-length
 same-length c = search needs

@@ -6,11 +6,11 @@ use borrow.Author.Needs.{needs}
 use Rattle.print_table.proofs.main.Statement.{statement}
 use Rattle.print_table.proofs.main.Tie as tie
 
-slice-aggregate-read-full : tie.Need-slice-aggregate-read-full
-slice-aggregate-read-full c = search needs
+slice-aggregate-read-text : tie.Need-slice-aggregate-read-text
+slice-aggregate-read-text c = search needs
 
-read-full-requires : tie.Need-read-full-requires
-read-full-requires c κs = search needs
+read-text-requires : tie.Need-read-text-requires
+read-text-requires c κs = search needs
 
 slice-aggregate-print : tie.Need-slice-aggregate-print
 slice-aggregate-print c = search needs
@@ -40,8 +40,8 @@ pub main-spec : {M : Type 1} → statement M
 main-spec =
     tie.close
     (tie.spec
-    slice-aggregate-read-full
-    read-full-requires
+    slice-aggregate-read-text
+    read-text-requires
     slice-aggregate-print
     array-share-prefix-text
     slice-aggregate-print-2

@@ -24,9 +24,12 @@ same-length c = search needs
 
 returns : tie.Need-returns
 returns c =
-    let b = c .before .before .before .before .before .before .before .before .before .before .before .before .before in
-    let p = rw (c .before .before .before .before .before .bytes32 .ensures, c .before .before .before .before .before .before .check-of .ensures .0) at (c .before .before .put .ensures) in
-    sealed-is (b .args .part .now) (c .before .before .before .before .before .before .before .before .before .before .put-zeros .last .0) (c .before .before .put .last .0) (b .args .at) (b .pre .0) (b .pre .1) (c .before .before .before .before .before .before .before .before .before .before .put-zeros .ensures) p
+    let z = c .before .before .before .before .before .before .before .before .before .before in
+    let b = z .before .before .before in
+    let x = c .before .before .before .before .before in
+    let w = c .before .before .put in
+    let p = rw (x .bytes32 .ensures, x .before .check-of .ensures .0) at (w .ensures) in
+    sealed-is (b .args .part .now) (z .put-zeros .last .0) (w .last .0) (b .args .at) (b .pre .0) (b .pre .1) (z .put-zeros .ensures) p
 
 pub seal-spec : {M : Type 1} → statement M
 seal-spec =

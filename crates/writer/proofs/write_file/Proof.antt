@@ -11,7 +11,8 @@ use Rattle.blocks.specs.File.{written, blocks-of}
 use Rattle.sheet.specs.Arrays.{sheet-of}
 use Rattle.blocks.specs.Held.{entry-of, entries-of}
 use Rattle.blocks.specs.TabLaws.{length-tab}
-use Rattle.blocks.specs.FileLaws.{block-more, block-first, length-sheet, jobs-block, rows-block}
+use Rattle.blocks.specs.FileLaws.{block-more, block-first, jobs-block, rows-block}
+use Rattle.sheet.specs.ArraysLaws.{length-sheet}
 use borrow.Author.Needs.{needs}
 use Rattle.writer.proofs.write_file.Statement.{statement}
 use Rattle.writer.proofs.write_file.Tie as tie
@@ -118,7 +119,7 @@ returns c =
     let t = c .before .before .before .before .before .before .blocks-of in
     let σ = sheet-of (a .jobs) (a .n) in
     let R = entries-of (a .words .now) (a .marks .now) (a .count) in
-    let n = length-sheet (a .jobs) (a .n) (search needs) (search needs) in
+    let n = length-sheet (a .jobs) (a .n) (search needs) in
     let e : l .b ≡ blocks-of (a .count) = omega arith in
     let f = block-first (t .result) σ R (omega arith) (a .out .now) (w .last .0) _ (jobs-block (a .jobs) (a .n) (search needs) (search needs) (t .result) R (w .last .0) (w .ensures)) refl in
     rw (length-tab (a .count) (entry-of (a .words .now) (a .marks .now))) (rw (e, t .ensures) at (l .inv .1 .1 .1 σ (a .out .now) n f))

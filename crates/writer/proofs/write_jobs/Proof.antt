@@ -14,7 +14,8 @@ use Rattle.writer.proofs.write_jobs.Statement.{statement}
 use Rattle.writer.proofs.write_jobs.Tie as tie
 
 abbrev Inv-loop : tie.InvT-loop
-Inv-loop part₀ n total jobs many s₀ part s = (s ≤ n) × ((length part ≡ block-bytes) × (take (header-bytes + slot-bytes * s) part ≡ so-far job-slot n 0 total n (λ i. job-of (getD jobs i [])) s))
+Inv-loop part₀ n total jobs many s₀ part s =
+    (s ≤ n) × ((length part ≡ block-bytes) × (take (header-bytes + slot-bytes * s) part ≡ so-far job-slot n 0 total n (λ i. job-of (getD jobs i [])) s))
 
 abbrev μ-loop : tie.MeasureT-loop
 μ-loop part₀ n total jobs many s₀ part s = n - s
@@ -30,8 +31,12 @@ put-requires c κs = search needs
 
 loop-holds : tie.Need-loop-holds Inv-loop μ-loop
 loop-holds c =
-    let a = c .before .before .before .before .before .before .before .args in
-    let t = head-turn slot-bytes job-slot (λ x. refl) (a .n) 0 (a .total) (a .n) (λ i. job-of (getD (a .t4) i [])) (a .part .now) (c .before .before .put .last .0) (c .before .before .before .before .before .before .before .pre .0) (rw (c .before .before .before .before .before .header-of .ensures) at (c .before .before .put .ensures)) in
+    let s = c .before .before .before .before .before .before .before in
+    let a = s .args in
+    let p = c .before .before .put in
+    let h = c .before .before .before .before .before .header-of in
+    let t = head-turn slot-bytes job-slot (λ x. refl) (a .n) 0 (a .total) (a .n) (λ i. job-of (getD (a .t4) i []))
+    (a .part .now) (p .last .0) (s .pre .0) (rw (h .ensures) at (p .ensures)) in
     (search needs, t)
 
 mul-job-slot : tie.Need-mul-job-slot Inv-loop μ-loop
@@ -65,8 +70,10 @@ loop-again : tie.Need-loop-again Inv-loop μ-loop
 loop-again c =
     let a = c .before .before .before .before .before .before .before .before .before .before .before .before .before .before .before .before .args in
     let l = c .before .before .before .before .before .before .before .before .loop in
-    let t = slot-turn slot-bytes job-slot (λ x. refl) (a .n) 0 (a .total) (a .n) (λ i. job-of (getD (a .t4) i [])) (l .s) (l .part) (c .before .before .before .before .before .job-slot .result) (c .before .before .put2 .last .0)
-    (omega arith) (omega arith) (l .inv .1 .0) (l .inv .1 .1) (c .before .before .before .before .before .job-slot .ensures) (c .before .before .put2 .ensures) in
+    let j = c .before .before .before .before .before .job-slot in
+    let p = c .before .before .put2 in
+    let t = slot-turn slot-bytes job-slot (λ x. refl) (a .n) 0 (a .total) (a .n) (λ i. job-of (getD (a .t4) i []))
+    (l .s) (l .part) (j .result) (p .last .0) (omega arith) (omega arith) (l .inv .1 .0) (l .inv .1 .1) (j .ensures) (p .ensures) in
     (search needs, t)
 
 mul-seal : tie.Need-mul-seal Inv-loop μ-loop
@@ -86,8 +93,10 @@ returns c =
     let a = c .before .before .before .before .before .before .before .before .before .before .before .before .before .args in
     let l = c .before .before .before .before .before .loop in
     let e : l .s ≡ a .n = omega arith in
+    let w = c .before .before .seal in
     rw (sheet-tab (a .t4) (a .n) (search needs) (search needs))
-    (end-turn slot-bytes job-slot (λ x. refl) (a .n) 0 (a .total) (a .n) (λ i. job-of (getD (a .t4) i [])) (l .part) (c .before .before .seal .last .0) (rw e at (l .inv .1 .1)) (c .before .before .seal .ensures))
+    (end-turn slot-bytes job-slot (λ x. refl) (a .n) 0 (a .total) (a .n) (λ i. job-of (getD (a .t4) i []))
+    (l .part) (w .last .0) (rw e at (l .inv .1 .1)) (w .ensures))
 
 pub write-jobs-spec : {M : Type 1} → statement M
 write-jobs-spec =

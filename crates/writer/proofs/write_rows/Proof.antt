@@ -29,9 +29,12 @@ put-requires c κs = search needs
 
 loop-holds : tie.Need-loop-holds Inv-loop μ-loop
 loop-holds c =
-    let a = c .before .before .before .before .before .before .before .before .before .args in
+    let s = c .before .before .before .before .before .before .before .before .before in
+    let a = s .args in
+    let p = c .before .before .put in
+    let h = c .before .before .before .before .before .header-of in
     let t = head-turn slot-bytes row-slot (λ x. refl) (a .n) (a .k) (a .total) (a .used) (λ i. entry-of (a .words .now) (a .marks .now) (a .from + i))
-    (a .part .now) (c .before .before .put .last .0) (c .before .before .before .before .before .before .before .before .before .pre .0 .0) (rw (c .before .before .before .before .before .header-of .ensures) at (c .before .before .put .ensures)) in
+    (a .part .now) (p .last .0) (s .pre .0 .0) (rw (h .ensures) at (p .ensures)) in
     (search needs, t)
 
 add-row-slot : tie.Need-add-row-slot Inv-loop μ-loop
@@ -77,8 +80,10 @@ loop-again : tie.Need-loop-again Inv-loop μ-loop
 loop-again c =
     let a = c .before .before .before .before .before .before .before .before .before .before .before .before .before .before .before .before .before .before .before .args in
     let l = c .before .before .before .before .before .before .before .before .before .loop in
+    let r = c .before .before .before .before .before .row-slot in
+    let p = c .before .before .put2 in
     let t = slot-turn slot-bytes row-slot (λ x. refl) (a .n) (a .k) (a .total) (a .used) (λ i. entry-of (a .words .now) (a .marks .now) (a .from + i))
-    (l .s) (l .part) (c .before .before .before .before .before .row-slot .result) (c .before .before .put2 .last .0) (omega arith) (omega arith) (l .inv .1 .0) (l .inv .1 .1) (c .before .before .before .before .before .row-slot .ensures) (c .before .before .put2 .ensures) in
+    (l .s) (l .part) (r .result) (p .last .0) (omega arith) (omega arith) (l .inv .1 .0) (l .inv .1 .1) (r .ensures) (p .ensures) in
     (search needs, t)
 
 mul-seal : tie.Need-mul-seal Inv-loop μ-loop

@@ -35,13 +35,22 @@ returns : tie.Need-returns
 returns c = λ σ s h. rw (c .enum-told .given .1) (look-tick σ (model s) _ h)
 
 returns-2 : tie.Need-returns-2
-returns-2 c = λ σ s h. let k = subst Job-fits (c .before .before .e .given .1) (c .before .before .before .before .pre) in rw (c .before .before .e .given .1) (look-arrival σ (model s) _ h _ k (c .has .ensures))
+returns-2 c = λ σ s h.
+    let e = c .before .before .e .given .1 in
+    let k = subst Job-fits e (c .before .before .before .before .pre) in
+    rw e (look-arrival σ (model s) _ h _ k (c .has .ensures))
 
 returns-3 : tie.Need-returns-3
-returns-3 c = λ σ s h. let k = subst Job-fits (c .before .before .e2 .given .1) (c .before .before .before .before .pre) in rw (c .before .before .e2 .given .1) (look-start σ (model s) _ h _ k (c .has2 .ensures))
+returns-3 c = λ σ s h.
+    let e = c .before .before .e2 .given .1 in
+    let k = subst Job-fits e (c .before .before .before .before .pre) in
+    rw e (look-start σ (model s) _ h _ k (c .has2 .ensures))
 
 returns-4 : tie.Need-returns-4
-returns-4 c = λ σ s h. let k = subst Job-fits (c .before .before .e3 .given .1) (c .before .before .before .before .pre) in rw (c .before .before .e3 .given .1) (look-ending σ (model s) _ h _ k (c .has3 .ensures))
+returns-4 c = λ σ s h.
+    let e = c .before .before .e3 .given .1 in
+    let k = subst Job-fits e (c .before .before .before .before .pre) in
+    rw e (look-ending σ (model s) _ h _ k (c .has3 .ensures))
 
 returns-5 : tie.Need-returns-5
 returns-5 c = λ σ s h. rw (c .enum-told2 .given .1) refl

@@ -2,7 +2,7 @@
 use Prim.Native.Nat.{ℕ}
 use mathlib.Core.Path.{ap, _∙_}
 use borrow.Author.Needs.{needs}
-use Rattle.table.specs.OneReading.{reading}
+use Rattle.table.specs.Read.{reading}
 use Rattle.table.specs.Replies.{lookup}
 use Rattle.desk.specs.StepLaws.{good-told, bad-told}
 use Rattle.desk.proofs.step.step.Statement.{statement}

@@ -1,7 +1,7 @@
 -- The four tests of a block of rows, one after the other. Assumes nothing.
 use borrow.Author.Needs.{needs}
 use borrow.Author.Tests.{not-true, not-false}
-use Rattle.state.specs.SheetLaws.{length-sheet}
+use Rattle.sheet.specs.ArraysLaws.{length-sheet}
 use Rattle.state.specs.Tell.{tell-yes, tell-no, told-yes, told-no}
 use Rattle.form.proofs.block.rows_follow.Statement.{statement}
 use Rattle.form.proofs.block.rows_follow.Tie as tie

@@ -4,7 +4,7 @@ use mathlib.Core.Path.{_≡_}
 use native.Mathlib.Omega.{arith}
 use borrow.Author.Needs.{needs}
 use borrow.Author.Tests.{not-true, not-false}
-use Rattle.sheet.specs.Form.{state-of}
+use Rattle.sheet.specs.Model.{state-of}
 use Rattle.sheet.specs.WordLaws.{digits-lt}
 use Rattle.sheet.specs.Arrays.{sheet-of}
 use Rattle.state.specs.Tell.{told-yes, told-no}

@@ -2,7 +2,7 @@
 use mathlib.Core.Path.{sym, subst, _∙_}
 use borrow.Author.Needs.{needs}
 use borrow.Author.Tests.{not-true, not-false}
-use Rattle.sheet.specs.Form.{state-of}
+use Rattle.sheet.specs.Model.{state-of}
 use Rattle.sheet.specs.Arrays.{sheet-of}
 use Rattle.state.specs.Tell.{told-yes, told-no}
 use Rattle.form.specs.RowTest.{Tells}

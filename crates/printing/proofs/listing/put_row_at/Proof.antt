@@ -42,9 +42,11 @@ returns c =
     let b = c .before .before .before .before .before .before .before .before .before .before in
     let a = b .args in
     let f = a .file .now in
-    let p = c .before .before .put-row .ensures in
+    let w = c .before .before .put-row in
+    let p = w .ensures in
+    let e = row-line-at (a .n) f (a .i) (q .result) (r .result) (q .ensures) (r .ensures) in
     let l = row-length (a .n) (record { word = r .result; starts = getD f (q .result + 4) 0; tick = getD f (q .result + 5) 0 }) (b .pre .0 .0) (search needs) in (
-      subst (λ (s : List ℕ). Printed (a .out .now) (a .at) s (c .before .before .put-row .result) (c .before .before .put-row .last .0)) (row-line-at (a .n) f (a .i) (q .result) (r .result) (q .ensures) (r .ensures)) p,
+      subst (λ (s : List ℕ). Printed (a .out .now) (a .at) s (w .result) (w .last .0)) e p,
       omega (arith, p .behind, l),
     )
 

@@ -5,7 +5,7 @@ use mathlib.Core.Path.{_≡_, refl}
 use mathlib.Core.List.{_++_}
 use lib.ListN.{length, take}
 use borrow.Author.Needs.{needs}
-use Rattle.sheet.specs.Form.{digits}
+use Rattle.sheet.specs.Model.{digits}
 use Rattle.state.proofs.Packing.{low-two, low-byte, unpack-turn, unpacked}
 use Rattle.state.proofs.word.state_of.Statement.{statement}
 use Rattle.state.proofs.word.state_of.Tie as tie

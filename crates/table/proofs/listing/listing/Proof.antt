@@ -4,7 +4,7 @@ use native.Mathlib.Omega.{arith}
 use borrow.Author.Needs.{needs}
 use Rattle.table.specs.Reading.{bad}
 use Rattle.table.specs.Judging.{Judged}
-use Rattle.table.specs.OneReading.{answer-is}
+use Rattle.table.specs.ReadLaws.{answer-is}
 use Rattle.table.specs.Replies.{listing-reply}
 use Rattle.table.proofs.listing.listing.Statement.{statement}
 use Rattle.table.proofs.listing.listing.Tie as tie

@@ -4,7 +4,7 @@ use native.Mathlib.Omega.{arith}
 use borrow.Author.Needs.{needs}
 use Rattle.table.specs.Reading.{bad}
 use Rattle.table.specs.Judging.{Judged}
-use Rattle.table.specs.OneReading.{answer-is}
+use Rattle.table.specs.ReadLaws.{answer-is}
 use Rattle.table.specs.Replies.{row-reply}
 use Rattle.table.proofs.row.row.Statement.{statement}
 use Rattle.table.proofs.row.row.Tie as tie

@@ -102,7 +102,9 @@ loop-again c =
     let l = c .before .before .before .before .before .before .before .loop in
     let a = c .before .before .before .before .before .before .before .before .before .args in
     let s = drop (a .at) (a .text .now) in
-    rw (c .digit-value .ensures .0) (passed-more s (l .digits) (l .value) (l .inv) _ (getD-drop (a .at) (a .text .now) (l .digits) 0) (omega arith) (omega (arith, length-drop (a .at) (a .text .now))) (search needs))
+    rw (c .digit-value .ensures .0)
+    (passed-more s (l .digits) (l .value) (l .inv) _ (getD-drop (a .at) (a .text .now) (l .digits) 0)
+    (omega arith) (omega (arith, length-drop (a .at) (a .text .now))) (search needs))
 
 returns-6 : tie.Need-returns-6 Inv-loop μ-loop
 returns-6 c =

@@ -1,8 +1,9 @@
 -- `parse`: before each turn the numbers read so far stand in front. Assumes nothing.
 use Prim.Native.Nat.{ℕ, _-_}
 use native.Mathlib.Omega.{arith}
-use mathlib.Core.Path.{subst}
+use mathlib.Core.Path.{_≡_, subst}
 use mathlib.Core.Logic.{inl, inr}
+use mathlib.Core.List.{List}
 use lib.ListN.{length, drop, length-drop}
 use Rattle.text.specs.Fields.{So-far, Fronted, Found-to, ending}
 use Rattle.text.specs.declared.read.Found.the-variants.{Nothing}
@@ -18,15 +19,26 @@ Inv-loop text numbers₀ count₀ at₀ numbers count at = So-far text numbers c
 abbrev μ-loop : tie.MeasureT-loop
 μ-loop text numbers₀ count₀ at₀ numbers count at = length text - at
 
--- what was found, in the words of the turn
-front : (c : tie.After-known-told Inv-loop μ-loop) → Fronted (ending (c .before .before .before .before .before .before .before .loop .count)) (drop (c .before .before .before .before .before .before .before .loop .at) (c .before .before .before .before .before .before .before .before .before .args .text .now)) (c .before .digits .given .0 .0) (c .before .digits .given .0 .1 .0)
-front c =
-    let l = c .before .before .before .before .before .before .before .loop in
-    let a = c .before .before .before .before .before .before .before .before .before .args in
-    let n = c .before .before .before .number-at in
-    let e = c .before .before .before .before .end-of in
-    let f = subst (Found-to (e .result) (drop (l .at) (a .text .now))) (c .before .digits .given .1) (n .ensures) in
-    subst (λ (b : ℕ). Fronted b (drop (l .at) (a .text .now)) (c .before .digits .given .0 .0) (c .before .digits .given .0 .1 .0)) (e .ensures) f
+-- What was found, in the words of the turn.
+module _ (c : tie.After-known-told Inv-loop μ-loop) where
+  abbrev turn : tie.At-loop Inv-loop μ-loop
+  turn = c .before .before .before .before .before .before .before
+
+  abbrev whole : List ℕ
+  whole = turn .before .before .args .text .now
+
+  abbrev ahead : List ℕ
+  ahead = drop (turn .loop .at) whole
+
+  front : Fronted (ending (turn .loop .count)) ahead (c .before .digits .given .0 .0) (c .before .digits .given .0 .1 .0)
+  front =
+      let n = c .before .before .before .number-at in
+      let e = c .before .before .before .before .end-of in
+      let f = subst (Found-to (e .result) ahead) (c .before .digits .given .1) (n .ensures) in
+      subst (λ (b : ℕ). Fronted b ahead (c .before .digits .given .0 .0) (c .before .digits .given .0 .1 .0)) (e .ensures) f
+
+  ahead-length : length ahead ≡ length whole - turn .loop .at
+  ahead-length = length-drop (turn .loop .at) whole
 
 loop-holds : tie.Need-loop-holds Inv-loop μ-loop
 loop-holds c = so-far-none (c .before .args .text .now)
@@ -62,7 +74,8 @@ returns-2 c =
     let n = c .before .before .before .number-at in
     let e = c .before .before .before .before .end-of in
     let f = subst (Found-to (e .result) (drop (l .at) (a .text .now))) (c .before .enum-told .given .1) (n .ensures) in
-    inr (so-far-stuck (a .text .now) (l .numbers) (l .count) (l .at) (l .inv) (omega arith) (subst (λ (b : ℕ). Found-to b (drop (l .at) (a .text .now)) Nothing) (e .ensures) f), c .refused2 .ensures)
+    let stuck = subst (λ (b : ℕ). Found-to b (drop (l .at) (a .text .now)) Nothing) (e .ensures) f in
+    inr (so-far-stuck (a .text .now) (l .numbers) (l .count) (l .at) (l .inv) (omega arith) stuck, c .refused2 .ensures)
 
 mul-numbers : tie.Need-mul-numbers Inv-loop μ-loop
 mul-numbers c = search needs
@@ -74,19 +87,20 @@ add-count : tie.Need-add-count Inv-loop μ-loop
 add-count c = search needs
 
 add-at : tie.Need-add-at Inv-loop μ-loop
-add-at c = omega (arith, front c .within, length-drop (c .before .before .before .before .before .before .before .loop .at) (c .before .before .before .before .before .before .before .before .before .args .text .now))
+add-at c = omega (arith, front c .within, ahead-length c)
 
 add-at-2 : tie.Need-add-at-2 Inv-loop μ-loop
-add-at-2 c = omega (arith, front c .within, length-drop (c .before .before .before .before .before .before .before .loop .at) (c .before .before .before .before .before .before .before .before .before .args .text .now))
+add-at-2 c = omega (arith, front c .within, ahead-length c)
 
 loop-less : tie.Need-loop-less Inv-loop μ-loop
-loop-less c = omega (arith, front c .within, length-drop (c .before .before .before .before .before .before .before .loop .at) (c .before .before .before .before .before .before .before .before .before .args .text .now))
+loop-less c = omega (arith, front c .within, ahead-length c)
 
 loop-again : tie.Need-loop-again Inv-loop μ-loop
 loop-again c =
     let l = c .before .before .before .before .before .before .before .loop in
     let a = c .before .before .before .before .before .before .before .before .before .args in
-    so-far-more (a .text .now) (l .numbers) (l .count) (l .at) (l .inv) (c .before .digits .given .0 .0) (c .before .digits .given .0 .1 .0) (omega (arith, l .inv .few)) (front c)
+    let d = c .before .digits .given .0 in
+    so-far-more (a .text .now) (l .numbers) (l .count) (l .at) (l .inv) (d .0) (d .1 .0) (omega (arith, l .inv .few)) (front c)
 
 refused-requires-3 : tie.Need-refused-requires-3 Inv-loop μ-loop
 refused-requires-3 c κs = search needs
