@@ -17,7 +17,8 @@ use Rattle.blocks.specs.Held.{tab}
 use Rattle.blocks.specs.TabLaws.{length-tab, getD-tab}
 use Rattle.form.specs.BlockTest.{fours}
 use Rattle.table.specs.Reading.{block-at, good, Says}
-use Rattle.table.specs.ReadingLaws.{at-block, jobs-count, job-there}
+use Rattle.table.specs.ReadingLaws.{job-there}
+use Rattle.table.specs.PlaceLaws.{jobs-number}
 use Rattle.table.specs.JobsRight.{sheet-in}
 use Rattle.table.specs.Read.{reading}
 use Rattle.table.specs.ReadLaws.{says-reading}
@@ -27,9 +28,6 @@ pub said : (file : List ℕ) → Each-byte file → {σ : Sheet} {rows : List En
 said file small e = subst (Says file) e (says-reading file small)
 
 module _ {file : List ℕ} {σ : Sheet} {rows : List Entry} (s : Says file (good σ rows)) where
-  pub count-read : length σ ≡ getD file 3 0
-  count-read = jobs-count (s .0) (s .1) ∙ at-block file 0 3 (omega arith)
-
   pub sheet-read : (n : ℕ) → length σ ≡ n → sheet-of (fours (take block-bytes file)) n ≡ σ
   sheet-read n e =
       sheet-in (block-at file 0) n (omega (arith, s .1 .sheet .few-jobs))
@@ -43,4 +41,4 @@ module _ {file : List ℕ} {σ : Sheet} {rows : List Entry} (s : Says file (good
 
   -- the look at a state, by the jobs that the code read
   pub looked : {js : List (List ℕ)} {l : Look} (q : State) → js ≡ fours (take block-bytes file) → l ≡ look-of (sheet-of js (getD file 3 0)) q → l ≡ look-of σ q
-  looked q e d = d ∙ ap (λ (τ : Sheet). look-of τ q) (ap (λ (j : List (List ℕ)). sheet-of j (getD file 3 0)) e ∙ sheet-read (getD file 3 0) count-read)
+  looked q e d = d ∙ ap (λ (τ : Sheet). look-of τ q) (ap (λ (j : List (List ℕ)). sheet-of j (getD file 3 0)) e ∙ sheet-read (getD file 3 0) (jobs-number s))

@@ -202,7 +202,7 @@ fn follows(b: u16, last: u32, word: u32) -> bool
     true
 }
 
-// Whether a block is good as block b, of rows, after a block whose last word is given: count, frame, rows, and that they follow.
+// Whether a block is good as block b, of rows, after a block whose last word is given: count, frame, that its rows follow, and the rows.
 pub fn rows_follow(block: &[u8], b: u16, total: u16, last: u32, jobs: [[u16; 4]; 8], n: u8) -> bool
     requires { ⌜ (length (now block) ≡ block-bytes) × (((1 ≤ b) × (b < most-blocks)) × (n ≤ most-jobs)) ⌝ }
     ensures { λ r. ⌜ Is r (Rows-block (sheet-of jobs n) total b last (now (block .entry))) ⌝ }
@@ -214,11 +214,8 @@ pub fn rows_follow(block: &[u8], b: u16, total: u16, last: u32, jobs: [[u16; 4];
     if !framed(block, n, used, b, total) {
         return false;
     }
-    if !slots_good(block, used, jobs, n) {
-        return false;
-    }
     if !follows(b, last, read32(block, HEADER)) {
         return false;
     }
-    true
+    slots_good(block, used, jobs, n)
 }

@@ -15,7 +15,6 @@ use Rattle.blocks.specs.TabLaws.{length-tab, getD-tab, tab-snoc}
 use Rattle.blocks.specs.Bytes.{u32-at}
 use Rattle.blocks.specs.Fields.{row-from}
 use Rattle.table.specs.Reading.{Says, good}
-use Rattle.table.specs.ReadingLaws.{at-block, jobs-count}
 use Rattle.table.specs.Places.{place}
 use Rattle.table.specs.PlaceLaws.{row-placed}
 use Rattle.lines.specs.Lines.{row-line, listing-text, header-line}
@@ -55,10 +54,6 @@ module _ {file : List ℕ} {σ : Sheet} {rows : List Entry} (s : Says file (good
       ext-getD no-entry (tab (length rows) f) rows (length-tab (length rows) f) (λ i h.
       let l : i < length rows = omega (arith, length-tab (length rows) f) in
       getD-tab (length rows) f no-entry i l ∙ row-placed s i l)
-
-  -- a file's jobs, by its own byte
-  pub jobs-told : length σ ≡ getD file 3 0
-  jobs-told = jobs-count (s .0) (s .1) ∙ at-block file 0 3 (omega arith)
 
   pub jobs-few : length σ ≤ most-jobs
   jobs-few = s .1 .sheet .few-jobs

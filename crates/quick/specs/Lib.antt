@@ -3,4 +3,3 @@
 pub mod Quick
 -- What follows:
 pub mod QuickLaws
-pub mod PastLaws

@@ -18,7 +18,8 @@ use Rattle.table.specs.PlaceLaws.{climb, row-lies}
 use Rattle.table.specs.Replies.{told, lookup, row-reply}
 use Rattle.table.specs.RowLaws.{lookup-none}
 use Rattle.table.specs.declared.row.RowReply.{RowReply}
-use Rattle.quick.specs.Quick.{last-word, Goes-past, Read-for, Quick}
+use Rattle.table.specs.ReadFor.{last-word, Goes-past, Read-for}
+use Rattle.quick.specs.Quick.{Quick}
 
 -- LAW: two replies to one question are equal
 module _ (file : List ℕ) (w : ℕ) where

@@ -1,4 +1,4 @@
--- What the test of a file answers: its lowest bad block, or the number of its jobs.
+-- What the reading of a file's blocks for a word answers: the block that is bad, or the number of rows read.
 use Prim.Native.Nat.{ℕ}
 use mathlib.Core.Path.{_≡_}
 use mathlib.Core.Bool.{Bool, true, false}
@@ -8,6 +8,7 @@ use Rattle.sheet.specs.Model.{Sheet}
 use Rattle.sheet.specs.Table.{Entry}
 use Rattle.form.specs.BlockTest.{Jobs-block}
 use Rattle.table.specs.Reading.{total, block-at, Sized, Says, good, bad}
+use Rattle.table.specs.ReadFor.{Read-for}
 use Rattle.table.specs.declared.judge.Verdict.{Verdict}
 use Rattle.table.specs.declared.judge.Verdict.the-variants.{Bad, Good}
 
@@ -19,6 +20,10 @@ abbrev pub Opened : List ℕ → Bool → Type 0
 Opened file true = Opens file
 Opened file false = Says file (bad 0)
 
-abbrev pub Judged : List ℕ → Verdict → Type 0
-Judged file (Bad b) = Says file (bad b)
-Judged file (Good n) = (σ : Sheet) × (rows : List Entry) × Says file (good σ rows) × (length σ ≡ n)
+abbrev pub Judged : List ℕ → ℕ → Verdict → Type 0
+Judged file w (Bad b) = Read-for file w (bad b)
+Judged file w (Good n) = (σ : Sheet) × (rows : List Entry) × Read-for file w (good σ rows) × (length rows ≡ n)
+
+-- a good file, of `n` jobs and `m` rows
+abbrev pub Counts : List ℕ → ℕ → ℕ → Type 0
+Counts file n m = (σ : Sheet) × (rows : List Entry) × Says file (good σ rows) × (length σ ≡ n) × (length rows ≡ m)

@@ -2,6 +2,7 @@
 -- A reader believes these:
 pub mod Reading
 pub mod Read
+pub mod ReadFor
 pub mod Replies
 pub mod Judging
 pub mod Places
@@ -16,6 +17,8 @@ pub mod SomeReading
 pub mod ReadLaws
 pub mod TableBytes
 pub mod PlaceLaws
+pub mod ReadForLaws
+pub mod PastLaws
 pub mod RowLaws
 pub mod ListingLaws
 pub mod LeewayLaws

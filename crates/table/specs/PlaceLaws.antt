@@ -12,7 +12,7 @@ use Rattle.blocks.specs.Sizes.{block-slots, slot-bytes, most-rows}
 use Rattle.blocks.specs.Bytes.{u32-at}
 use Rattle.blocks.specs.Fields.{slot-at, job-from, row-from}
 use Rattle.table.specs.Reading.{total, block-at, Sized, Reads, good, Says}
-use Rattle.table.specs.ReadingLaws.{in-first, row-at, job-there, part, rows-count, row-there}
+use Rattle.table.specs.ReadingLaws.{at-block, in-first, row-at, jobs-count, job-there, part, rows-count, row-there}
 use Rattle.table.specs.Places.{place, Ascends, Finds}
 use Rattle.table.specs.declared.place.Found.the-variants.{Nowhere, At}
 
@@ -54,6 +54,10 @@ module _ {file : List ℕ} {k : ℕ} {σ : Sheet} {rows : List Entry} (sized : S
 module _ {file : List ℕ} {σ : Sheet} {rows : List Entry} (s : Says file (good σ rows)) where
   pub rows-number : length rows ≡ block-slots * (total file - 2) + getD (block-at file (total file - 1)) 3 0
   rows-number = let long = s .0 .long in omega (arith, rows-read (s .0) (s .1) (omega arith))
+
+  -- a file's jobs are counted by its own byte
+  pub jobs-number : length σ ≡ getD file 3 0
+  jobs-number = jobs-count (s .0) (s .1) ∙ at-block file 0 3 (omega arith)
 
   pub job-placed : (k : ℕ) → Names σ k → job-from file (slot-at (k - 1)) ≡ job σ k
   job-placed k h =

@@ -2,9 +2,9 @@
 use Prim.Native.Nat.{ℕ, zero, suc, _+_, _-_, _%_, _≤_}
 use native.Mathlib.Omega.{arith}
 use native.Mathlib.Decide.{decLe, ℕ-discrete}
-use mathlib.Core.Path.{_≡_, refl}
+use mathlib.Core.Path.{_≡_}
 use mathlib.Core.List.{List}
-use lib.ListN.{length, getD}
+use lib.ListN.{length}
 use Rattle.blocks.specs.Sizes.{block-bytes}
 use Rattle.blocks.specs.Bytes.{Each-byte}
 use Rattle.form.specs.BlockTest.{Rows-block, Jobs-block}
@@ -19,9 +19,7 @@ module _ (file : List ℕ) (small : Each-byte file) where
   Read = (x : Reading) × Says file x
 
   rest : Sized file → (m b : ℕ) → b + m ≡ total file → So-far file b → Read
-  rest sized zero b e s =
-      let g = all-good file sized b s (omega arith) (omega arith) (getD (block-at file 0) 3 0) refl in
-      (good (g .0) (g .1), g .2)
+  rest sized zero b e s = (good (jobs-in (block-at file 0)) (s .1), all-good file sized b s (omega arith))
   rest sized (suc m) b e s = go (dec-rows-block (block-at file b) (jobs-in (block-at file 0)) (total file) b (before file b)) (λ t. rest sized m (b + 1) (omega arith) t)
     where
       go : Dec (Rows-block (jobs-in (block-at file 0)) (total file) b (before file b) (block-at file b)) → (So-far file (b + 1) → Read) → Read

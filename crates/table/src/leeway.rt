@@ -1,11 +1,12 @@
 // How long a job's start can wait: A + D − W − now, below zero where it is too late to be sure.
 ghost use mathlib.Core.Path.{_≡_};
 ghost use Prim.Native.Nat.{_≤_, _+_};
-ghost use Rattle.table.specs.Judging.{Judged};
+ghost use Rattle.table.specs.Judging.{Counts};
 ghost use Rattle.table.specs.Replies.{Answers, ticks-left, no-leeway, leeway-reply};
 ghost use Rattle.table.specs.Read.{reading};
+use crate::judge::PAST_ALL;
 use crate::judge::Verdict;
-use crate::judge::judge;
+use crate::judge::read_for;
 use crate::place::Found;
 use crate::place::find;
 use blocks::numbers::read16;
@@ -40,9 +41,9 @@ fn left(a: u16, d: u16, w: u16, now: u8) -> i32
     a as i32 + d as i32 - w as i32 - now as i32
 }
 
-// The leeway of a job in a state, in a good file with n jobs. The job is asked for first, then the row, then the job's status.
-fn leeway_in(file: &[u8], n: u8, word: u32, job: u32) -> LeewayReply
-    requires { ⌜ Judged (now file) (Verdict.Good n) ⌝ }
+// The leeway of a job in a state, in a good file with n jobs and so many rows. The job is asked for first, then the row, then the job's status.
+fn leeway_in(file: &[u8], n: u8, count: u32, word: u32, job: u32) -> LeewayReply
+    requires { ⌜ Counts (now file) n count ⌝ }
     ensures { λ r. ⌜ Answers (now (file .entry)) (leeway-reply word job) r ⌝ }
 {
     if job < 1 {
@@ -51,7 +52,7 @@ fn leeway_in(file: &[u8], n: u8, word: u32, job: u32) -> LeewayReply
     if (n as u32) < job {
         return refusal(9, 0);
     }
-    let Found::At(_) = find(file, word) else {
+    let Found::At(_) = find(file, count as usize, word) else {
         return refusal(8, 0);
     };
     if 2 <= status_in(word, job as u8) {
@@ -68,13 +69,13 @@ fn leeway_in(file: &[u8], n: u8, word: u32, job: u32) -> LeewayReply
     }
 }
 
-// The leeway of a job in a state, of any bytes: the file is judged first.
+// The leeway of a job in a state, of any bytes: the whole file is read first.
 pub fn leeway(file: &[u8], word: u32, job: u32) -> LeewayReply
     ensures { λ r. ⌜ r ≡ leeway-reply word job (reading (now (file .entry))) ⌝ }
 {
-    let verdict = judge(file);
+    let verdict = read_for(file, PAST_ALL);
     match verdict {
         Verdict::Bad(b) => refusal(7, b),
-        Verdict::Good(n) => leeway_in(file, n, word, job),
+        Verdict::Good(count) => leeway_in(file, file[3], count, word, job),
     }
 }

@@ -5,12 +5,12 @@ ghost use lib.ListN.{length};
 ghost use Rattle.blocks.specs.Sizes.{block-bytes, header-bytes};
 ghost use Rattle.blocks.specs.Bytes.{u16-at};
 ghost use Rattle.blocks.specs.Held.{tab};
-ghost use Rattle.table.specs.Judging.{Judged};
+ghost use Rattle.table.specs.Judging.{Counts};
 ghost use Rattle.table.specs.Replies.{Answers, unlisted, listing-reply};
 ghost use Rattle.table.specs.Read.{reading};
+use crate::judge::PAST_ALL;
 use crate::judge::Verdict;
-use crate::judge::judge;
-use crate::place::count_rows;
+use crate::judge::read_for;
 use crate::place::word_at;
 use crate::row::row_at;
 use blocks::numbers::read16;
@@ -60,26 +60,25 @@ fn numbers_of(file: &[u8]) -> [u16; 32]
     out
 }
 
-// The row of a number from 1, in a good file with n jobs.
-fn listing_in(file: &[u8], n: u8, row_number: u32) -> ListingReply
-    requires { ⌜ Judged (now file) (Verdict.Good n) ⌝ }
+// The row of a number from 1, in a good file with n jobs and so many rows.
+fn listing_in(file: &[u8], n: u8, count: u32, row_number: u32) -> ListingReply
+    requires { ⌜ Counts (now file) n count ⌝ }
     ensures { λ r. ⌜ Answers (now (file .entry)) (listing-reply «row_number») r ⌝ }
 {
-    let count = count_rows(file);
     if row_number < 1 {
         return unlisted_reply(8, 0);
     }
-    let i = (row_number - 1) as usize;
-    if count <= i {
+    if count < row_number {
         return unlisted_reply(8, 0);
     }
+    let i = (row_number - 1) as usize;
     let told = row_at(file, i);
     let numbers = numbers_of(file);
     ListingReply {
         number: 0,
         detail: 0,
         jobs: n as u32,
-        rows: count as u32,
+        rows: count,
         numbers: numbers,
         word: word_at(file, i),
         starts: told.starts,
@@ -87,13 +86,13 @@ fn listing_in(file: &[u8], n: u8, row_number: u32) -> ListingReply
     }
 }
 
-// All jobs, the count of rows and the row of a number from 1, of any bytes: the file is judged first.
+// All jobs, the count of rows and the row of a number from 1, of any bytes: the whole file is read first.
 pub fn listing(file: &[u8], row_number: u32) -> ListingReply
     ensures { λ r. ⌜ r ≡ listing-reply «row_number» (reading (now (file .entry))) ⌝ }
 {
-    let verdict = judge(file);
+    let verdict = read_for(file, PAST_ALL);
     match verdict {
         Verdict::Bad(b) => unlisted_reply(7, b),
-        Verdict::Good(n) => listing_in(file, n, row_number),
+        Verdict::Good(count) => listing_in(file, file[3], count, row_number),
     }
 }

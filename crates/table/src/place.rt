@@ -7,8 +7,8 @@ ghost use Rattle.sheet.specs.Model.{Sheet};
 ghost use Rattle.sheet.specs.Table.{Entry};
 ghost use Rattle.blocks.specs.Sizes.{block-slots, slot-bytes, most-rows};
 ghost use Rattle.blocks.specs.Bytes.{u32-at};
-ghost use Rattle.table.specs.Reading.{total, block-at, Sized, Reads, Says, good};
-ghost use Rattle.table.specs.Places.{place, Ascends, Good-file, Read-rows, Finds};
+ghost use Rattle.table.specs.Reading.{total, block-at, Sized, Reads};
+ghost use Rattle.table.specs.Places.{place, Ascends, Read-rows, Finds};
 use blocks::numbers::read32;
 use blocks::sizes::BLOCK;
 use blocks::sizes::HEADER;
@@ -74,7 +74,7 @@ fn lower(file: &[u8], n: usize, word: u32) -> usize
 }
 
 // The row that has a word, of the n rows read so far: if any has, it is the first that is not below.
-pub fn find_among(file: &[u8], n: usize, word: u32) -> Found
+pub fn find(file: &[u8], n: usize, word: u32) -> Found
     requires { ⌜ Read-rows (now file) n ⌝ }
     ensures { λ r. ⌜ ((k : ℕ) (σ : Sheet) (rows : List Entry) → Reads (now (file .entry)) k σ rows → length rows ≡ n → Finds rows word r) ⌝ }
 {
@@ -86,12 +86,4 @@ pub fn find_among(file: &[u8], n: usize, word: u32) -> Found
         return Found::Nowhere;
     }
     Found::At(p)
-}
-
-// The row of a good file that has a word.
-pub fn find(file: &[u8], word: u32) -> Found
-    requires { ⌜ Good-file (now file) ⌝ }
-    ensures { λ r. ⌜ ((σ : Sheet) (rows : List Entry) → Says (now (file .entry)) (good σ rows) → Finds rows word r) ⌝ }
-{
-    find_among(file, count_rows(file), word)
 }

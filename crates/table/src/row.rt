@@ -8,14 +8,15 @@ ghost use Rattle.sheet.specs.Table.{Entry};
 ghost use Rattle.blocks.specs.Sizes.{slot-bytes, most-rows};
 ghost use Rattle.blocks.specs.Fields.{row-from};
 ghost use Rattle.table.specs.Reading.{Reads};
-ghost use Rattle.table.specs.Replies.{Answers, told, lookup, row-reply};
+ghost use Rattle.table.specs.Replies.{told, lookup, row-reply};
 ghost use Rattle.table.specs.Read.{reading};
-ghost use Rattle.table.specs.Places.{place, Read-rows, Good-file};
+ghost use Rattle.table.specs.ReadFor.{Answers-for};
+ghost use Rattle.table.specs.Places.{place, Read-rows};
+use crate::judge::PAST_ALL;
 use crate::judge::Verdict;
-use crate::judge::judge;
+use crate::judge::read_for;
 use crate::place::Found;
-use crate::place::count_rows;
-use crate::place::find_among;
+use crate::place::find;
 use crate::place::place_of;
 
 // A row's answer: number and detail, and on 0 the byte of starts and the tick code.
@@ -42,11 +43,11 @@ pub(crate) fn row_at(file: &[u8], i: usize) -> RowReply
 }
 
 // The row with a word, of the n rows read so far.
-pub fn row_among(file: &[u8], n: usize, word: u32) -> RowReply
+fn row_among(file: &[u8], n: usize, word: u32) -> RowReply
     requires { ⌜ Read-rows (now file) n ⌝ }
     ensures { λ r. ⌜ ((k : ℕ) (σ : Sheet) (rows : List Entry) → Reads (now (file .entry)) k σ rows → length rows ≡ n → r ≡ lookup word rows) ⌝ }
 {
-    let Found::At(i) = find_among(file, n, word) else {
+    let Found::At(i) = find(file, n, word) else {
         return RowReply {
             number: 8,
             detail: 0,
@@ -57,19 +58,11 @@ pub fn row_among(file: &[u8], n: usize, word: u32) -> RowReply
     row_at(file, i)
 }
 
-// The row with a word, in a good file.
-fn row_in(file: &[u8], word: u32) -> RowReply
-    requires { ⌜ Good-file (now file) ⌝ }
-    ensures { λ r. ⌜ Answers (now (file .entry)) (row-reply word) r ⌝ }
+// The row with a word, among those of the blocks read for a word.
+pub fn row_read(file: &[u8], until: u64, word: u32) -> RowReply
+    ensures { λ r. ⌜ Answers-for (now (file .entry)) until (row-reply word) r ⌝ }
 {
-    row_among(file, count_rows(file), word)
-}
-
-// Starts and tick code for a word, of any bytes: the file is judged first, and of a good one the row is looked up.
-pub fn row(file: &[u8], word: u32) -> RowReply
-    ensures { λ r. ⌜ r ≡ row-reply word (reading (now (file .entry))) ⌝ }
-{
-    let verdict = judge(file);
+    let verdict = read_for(file, until);
     match verdict {
         Verdict::Bad(b) => RowReply {
             number: 7,
@@ -77,6 +70,13 @@ pub fn row(file: &[u8], word: u32) -> RowReply
             starts: 0,
             tick: 0,
         },
-        Verdict::Good(_) => row_in(file, word),
+        Verdict::Good(n) => row_among(file, n as usize, word),
     }
+}
+
+// Starts and tick code for a word, of any bytes: the whole file is read first.
+pub fn row(file: &[u8], word: u32) -> RowReply
+    ensures { λ r. ⌜ r ≡ row-reply word (reading (now (file .entry))) ⌝ }
+{
+    row_read(file, PAST_ALL, word)
 }

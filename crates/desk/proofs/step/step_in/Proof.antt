@@ -21,8 +21,9 @@ use Rattle.table.specs.Reading.{good, Says}
 use Rattle.table.specs.Read.{reading}
 use Rattle.table.specs.Replies.{lookup}
 use Rattle.table.specs.declared.row.RowReply.{RowReply}
+use Rattle.table.specs.PlaceLaws.{jobs-number}
 use Rattle.desk.specs.Stepping.{state-in, known, on, names, allows, stays, asked, step-reply}
-use Rattle.desk.specs.FirstBlock.{said, count-read, looked}
+use Rattle.desk.specs.FirstBlock.{said, looked}
 use Rattle.desk.specs.StepLaws.{is-known, for-event, nine, eight-unknown, eight, ten, eleven, taken}
 use Rattle.desk.specs.MoveLaws.{job-fits, fits-in}
 use Rattle.desk.specs.declared.desk.Desk.{Desk}
@@ -75,7 +76,7 @@ module _ (c : tie.After-event-of) where
 -- whether the sheet names the event's job
 module _ (c : tie.After-names) where
   names-is : on false (names (sheet (c .before))) (event (c .before)) ≡ c .names .result
-  names-is = sym (c .names .ensures (sheet (c .before)) (count-read (says (first (c .before)))))
+  names-is = sym (c .names .ensures (sheet (c .before)) (jobs-number (says (first (c .before)))))
 
 -- it does
 module _ (c : tie.Else1) where
@@ -193,12 +194,12 @@ state-in-requires c κs = search needs
 cast-look-at : tie.Need-cast-look-at
 cast-look-at c =
     let s = says (first (asks (c .before .before .before .before .before))) in
-    record { fits = omega (arith, s .1 .sheet .few-jobs, count-read s) }
+    record { fits = omega (arith, s .1 .sheet .few-jobs, jobs-number s) }
 
 look-at-requires : tie.Need-look-at-requires
 look-at-requires c κs =
     let s = says (first (asks (c .before .before .before .before .before))) in
-    omega (arith, s .1 .sheet .few-jobs, count-read s)
+    omega (arith, s .1 .sheet .few-jobs, jobs-number s)
 
 may-requires : tie.Need-may-requires
 may-requires c κs =
@@ -249,7 +250,7 @@ after-requires c κs =
     let s = says (first a) in
     let z = found m .if3 .left in
     let n = named (y .before .before) in (
-      omega (arith, s .1 .sheet .few-jobs, count-read s),
+      omega (arith, s .1 .sheet .few-jobs, jobs-number s),
       fits-in (sheet a) (rows a) (s .1 .sheet) (s .1 .form) (desk a) (desk-fits (start a)) (all-known y)
           (row a) (its-row y) z (a .event-of .result) (q .result) (q .ensures) n (can-be x) (is-allowed c),
     )
@@ -267,7 +268,7 @@ returns-6 c =
     let a = asks y in
     let z = found m .if3 .left in
     let n = named (y .before .before) in
-    let g = rw (q .ensures) at (c .before .after .ensures (sheet a) (count-read (says (first a)))) in
+    let g = rw (q .ensures) at (c .before .after .ensures (sheet a) (jobs-number (says (first a)))) in
     replies a (ap moved (c .desk-of .ensures)
     ∙ taken (sheet a) (rows a) (desk a) (row a) (its-row y) (is-all-known y) z (event a) n (can-be x) (is-allowed v) _ g)
 

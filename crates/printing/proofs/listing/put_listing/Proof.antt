@@ -4,11 +4,11 @@ use mathlib.Core.Path.{sym, subst, _∙_}
 use mathlib.Core.List.{List}
 use native.Mathlib.Omega.{arith}
 use lib.ListN.{getD}
-use Rattle.table.specs.PlaceLaws.{rows-number, rows-few, places-end}
+use Rattle.table.specs.PlaceLaws.{jobs-number, rows-number, rows-few, places-end}
 use Rattle.lines.specs.Printed.{Printed}
 use Rattle.lines.specs.LineLaws.{header-length}
 use Rattle.lines.specs.PrintedLaws.{printed-length, printed-then}
-use Rattle.printing.specs.RowLinesLaws.{jobs-told, jobs-few, lines-listing}
+use Rattle.printing.specs.RowLinesLaws.{jobs-few, lines-listing}
 use borrow.Author.Needs.{needs}
 use Rattle.printing.proofs.listing.put_listing.Statement.{statement}
 use Rattle.printing.proofs.listing.put_listing.Tie as tie
@@ -33,7 +33,7 @@ put-rows-requires c κs =
     let r = c .before .before .before .before .before .count-rows in
     let e = r .ensures ∙ sym (rows-number s) in
     let few = rows-few s in
-    let n = jobs-told s in
+    let n = jobs-number s in
     let k = jobs-few s in
     let l = header-length (getD (b .args .file .now) 3 0) (r .result) (omega arith) (omega arith) in
     ((omega arith, (omega arith, omega (arith, h .behind, l, printed-length h, b .pre .1))), λ i d. places-end s i (omega arith))
@@ -47,7 +47,7 @@ returns c = λ σ rows s.
     let r = c .before .before .before .before .before .before .before .before .count-rows in
     let e = r .ensures ∙ sym (rows-number s) in
     subst (λ (t : List ℕ). Printed (a .out .now) 0 t (c .before .before .put-rows .result) (c .before .before .put-rows .last .0))
-    (lines-listing s (getD (a .file .now) 3 0) (r .result) (sym (jobs-told s)) e)
+    (lines-listing s (getD (a .file .now) 3 0) (r .result) (sym (jobs-number s)) e)
     (printed-then (c .before .before .before .before .before .before .put-header .ensures) (c .before .before .put-rows .ensures))
 
 pub put-listing-spec : {M : Type 1} → statement M

@@ -1,16 +1,21 @@
--- A file says one thing only, and the reply is the reply to that. Assumes nothing.
-use mathlib.Core.Path.{subst}
+-- The whole file says one thing only, and the reply is the reply to that. Assumes nothing.
+use Prim.Native.Nat.{ℕ}
+use mathlib.Core.Path.{refl, subst}
+use mathlib.Core.List.{List}
 use native.Mathlib.Omega.{arith}
 use borrow.Author.Needs.{needs}
+use Rattle.blocks.specs.Bytes.{Each-byte}
 use Rattle.table.specs.Reading.{bad}
-use Rattle.table.specs.Judging.{Judged}
+use Rattle.table.specs.ReadFor.{past-all}
+use Rattle.table.specs.ReadForLaws.{read-whole, whole-counts}
 use Rattle.table.specs.ReadLaws.{answer-is}
+use Rattle.table.specs.Judging.{Judged}
 use Rattle.table.specs.Replies.{listing-reply}
 use Rattle.table.proofs.listing.listing.Statement.{statement}
 use Rattle.table.proofs.listing.listing.Tie as tie
 
-judge-requires : tie.Need-judge-requires
-judge-requires c κs = search needs
+read-for-requires : tie.Need-read-for-requires
+read-for-requires c κs = search needs
 
 enum-known-verdict : tie.Need-enum-known-verdict
 enum-known-verdict c = search needs
@@ -18,28 +23,53 @@ enum-known-verdict c = search needs
 unlisted-reply-requires : tie.Need-unlisted-reply-requires
 unlisted-reply-requires c κs = search needs
 
+-- the whole file is read
+module _ (c : tie.After-read-for) where
+  abbrev file : List ℕ
+  file = c .before .before .args .file .now
+
+  small : Each-byte file
+  small i = omega (arith, c .before .shared-slice-known .given i)
+
+  judged : Judged file past-all (c .read-for .result)
+  judged = c .read-for .ensures
+
 enum-known-verdict-2 : tie.Need-enum-known-verdict-2
 enum-known-verdict-2 c = search needs
 
+shared-slice-read-listing-in : tie.Need-shared-slice-read-listing-in
+shared-slice-read-listing-in c =
+    let d = c .before .before .before .before in
+    let s = subst (Judged (file d) past-all) (c .before .before .verdict2 .given .1) (judged d) .2 .1 in
+    omega (arith, s .whole, s .long)
+
 listing-in-requires : tie.Need-listing-in-requires
-listing-in-requires c κs = subst (Judged (c .before .before .before .before .before .args .file .now)) (c .before .verdict2 .given .1) (c .before .before .before .judge .ensures)
+listing-in-requires c κs =
+    let d = c .before .before .before .before in
+    whole-counts (file d) _ _ refl (subst (Judged (file d) past-all) (c .before .before .verdict2 .given .1) (judged d))
 
 returns : tie.Need-returns
 returns c =
-    let f = subst (Judged (c .before .before .before .before .before .before .args .file .now)) (c .before .before .verdict .given .1) (c .before .before .before .before .judge .ensures) in
-    answer-is (c .before .before .before .before .before .before .args .file .now) (λ i. omega (arith, c .before .before .before .before .before .shared-slice-known .given i)) (listing-reply (c .before .before .before .before .before .before .args .row-number)) _ (bad _, f, c .unlisted-reply .ensures)
+    let d = c .before .before .before .before in
+    let a = d .before .before .args in
+    let b = subst (Judged (file d) past-all) (c .before .before .verdict .given .1) (judged d) in
+    answer-is (file d) (small d) (listing-reply (a .row-number)) _ (bad _, read-whole (file d) (bad _) b, c .unlisted-reply .ensures)
 
 returns-2 : tie.Need-returns-2
-returns-2 c = answer-is (c .before .before .before .before .before .before .args .file .now) (λ i. omega (arith, c .before .before .before .before .before .shared-slice-known .given i)) (listing-reply (c .before .before .before .before .before .before .args .row-number)) _ (c .listing-in .ensures)
+returns-2 c =
+    let d = c .before .before .before .before .before in
+    let a = d .before .before .args in
+    answer-is (file d) (small d) (listing-reply (a .row-number)) _ (c .listing-in .ensures)
 
 pub listing-spec : {M : Type 1} → statement M
 listing-spec =
     tie.close
     (tie.spec
-    judge-requires
+    read-for-requires
     enum-known-verdict
     unlisted-reply-requires
     enum-known-verdict-2
+    shared-slice-read-listing-in
     listing-in-requires
     returns
     returns-2)
