@@ -10,6 +10,7 @@ ghost use Rattle.sheet.specs.Arrays.{job-of, sheet-of};
 ghost use Rattle.form.specs.RowTest.{Job-fits, Pends, Spends, Tells, Ends, Marks-fit};
 use state::bits::has;
 use state::bits::status_in;
+use state::word::Elapsed;
 
 // What a pass over the jobs tells: a job does not fit or two run; or else whether one runs, whether an arrival is pending, and
 // whether one has run for its most ticks.
@@ -33,16 +34,16 @@ fn now_of(word: u32) -> u32
 }
 
 // The elapsed ticks of a state word.
-fn elapsed_of(word: u32) -> u32
-    ensures { λ r. ⌜ (r ≡ word / 2 ^ 16 % 256) × (r < 256) ⌝ }
+fn elapsed_of(word: u32) -> Elapsed
+    ensures { λ r. ⌜ r .0 ≡ word / 2 ^ 16 % 256 ⌝ }
 {
-    (word >> 16) & 255
+    Elapsed(((word >> 16) & 255) as u8)
 }
 
 // Whether one job of this status fits: each status asks its own rule, and only a ready job may be marked.
-fn job_fits(job: [u16; 4], s: u8, marked: bool, now: u32, elapsed: u32, opens: bool) -> bool
-    requires { ⌜ (s < 4) × ((now < 256) × (elapsed < 256)) ⌝ }
-    ensures { λ r. ⌜ Is r (Job-fits (job-of job) now elapsed s (marked ≡ true) (opens ≡ true)) ⌝ }
+fn job_fits(job: [u16; 4], s: u8, marked: bool, now: u32, elapsed: Elapsed, opens: bool) -> bool
+    requires { ⌜ (s < 4) × (now < 256) ⌝ }
+    ensures { λ r. ⌜ Is r (Job-fits (job-of job) now (elapsed .0) s (marked ≡ true) (opens ≡ true)) ⌝ }
 {
     let a = wide(job[0]);
     if s == 1 {
@@ -57,7 +58,9 @@ fn job_fits(job: [u16; 4], s: u8, marked: bool, now: u32, elapsed: u32, opens: b
     if s == 3 {
         return a + wide(job[1]) <= now;
     }
-    (now + (opens as u32) <= a + wide(job[3])) & ((elapsed <= wide(job[2])) & (a + elapsed <= now))
+    // As wide as the job's numbers, so that no sum wraps.
+    let ran = elapsed.0 as u32;
+    (now + (opens as u32) <= a + wide(job[3])) & ((ran <= wide(job[2])) & (a + ran <= now))
 }
 
 // Whether this job's arrival is pending.
@@ -68,10 +71,10 @@ fn pends(job: [u16; 4], s: u8, now: u32) -> bool
 }
 
 // Whether this job has run for its most ticks.
-fn spends(job: [u16; 4], s: u8, elapsed: u32) -> bool
-    ensures { λ r. ⌜ Is r (Spends (job-of job) elapsed s) ⌝ }
+fn spends(job: [u16; 4], s: u8, elapsed: Elapsed) -> bool
+    ensures { λ r. ⌜ Is r (Spends (job-of job) (elapsed .0) s) ⌝ }
 {
-    (s == 2) & (elapsed == wide(job[2]))
+    (s == 2) & (elapsed.0 as u32 == wide(job[2]))
 }
 
 // One pass over the jobs. What is told of the jobs passed grows by one job at each turn.
@@ -154,7 +157,7 @@ pub fn row_good(jobs: [[u16; 4]; 8], n: u8, word: u32, starts: u8, code: u8) -> 
     let Seen::Passed(running, pending, spent) = pass(jobs, n, word, starts, code) else {
         return false;
     };
-    if !running & (elapsed_of(word) != 0) {
+    if !running & (elapsed_of(word).0 != 0) {
         return false;
     }
     marks_fit(running, pending, spent, starts, code)

@@ -31,17 +31,17 @@ add-result-2 c = search needs
 returns : tie.Need-returns
 returns c =
     let a = c .before .before .before .args in
-    rw (c .before .before .wide .ensures .0, c .wide2 .ensures .0) (fits-ready (job-of (a .t1)) (a .now) (a .elapsed) (a .s) (a .marked) (a .opens) (c .before .if1 .taken))
+    rw (c .before .before .wide .ensures .0, c .wide2 .ensures .0) (fits-ready (job-of (a .t1)) (a .now) (a .elapsed .0) (a .s) (a .marked) (a .opens) (c .before .if1 .taken))
 
 returns-2 : tie.Need-returns-2
 returns-2 c =
     let a = c .before .before .before .args in
-    tell-no (fits-marked (job-of (a .t1)) (a .now) (a .elapsed) (a .s) (a .marked) (a .opens) (c .before .if1 .left) (c .if2 .taken))
+    tell-no (fits-marked (job-of (a .t1)) (a .now) (a .elapsed .0) (a .s) (a .marked) (a .opens) (c .before .if1 .left) (c .if2 .taken))
 
 returns-3 : tie.Need-returns-3
 returns-3 c =
     let a = c .before .before .before .before .args in
-    rw (c .before .before .before .wide .ensures .0) (fits-waiting (job-of (a .t1)) (a .now) (a .elapsed) (a .s) (a .marked) (a .opens) (c .before .if2 .left) (c .if3 .taken))
+    rw (c .before .before .before .wide .ensures .0) (fits-waiting (job-of (a .t1)) (a .now) (a .elapsed .0) (a .s) (a .marked) (a .opens) (c .before .if2 .left) (c .if3 .taken))
 
 array-read-wide-3 : tie.Need-array-read-wide-3
 array-read-wide-3 c = search needs
@@ -55,13 +55,16 @@ add-result-3 c = search needs
 returns-4 : tie.Need-returns-4
 returns-4 c =
     let a = c .before .before .before .before .before .before .args in
-    rw (c .before .before .before .before .before .wide .ensures .0, c .wide3 .ensures .0) (fits-done (job-of (a .t1)) (a .now) (a .elapsed) (a .s) (a .marked) (a .opens) (c .before .before .before .if2 .left) (c .before .if4 .taken))
+    rw (c .before .before .before .before .before .wide .ensures .0, c .wide3 .ensures .0) (fits-done (job-of (a .t1)) (a .now) (a .elapsed .0) (a .s) (a .marked) (a .opens) (c .before .before .before .if2 .left) (c .before .if4 .taken))
+
+cast-ran : tie.Need-cast-ran
+cast-ran c = search needs
 
 cast-result-2 : tie.Need-cast-result-2
 cast-result-2 c = search needs
 
 add-result-4 : tie.Need-add-result-4
-add-result-4 c = record { fits = omega (arith, one-bit (c .before .before .before .before .before .args .opens)) }
+add-result-4 c = record { fits = omega (arith, one-bit (c .before .before .before .before .before .before .args .opens)) }
 
 array-read-wide-4 : tie.Need-array-read-wide-4
 array-read-wide-4 c = search needs
@@ -83,8 +86,8 @@ add-result-6 c = search needs
 
 returns-5 : tie.Need-returns-5
 returns-5 c =
-    let a = c .before .before .before .before .before .before .before .args in
-    rw (c .before .before .before .before .before .before .wide .ensures .0, c .before .wide4 .ensures .0, c .wide5 .ensures .0) (fits-running (job-of (a .t1)) (a .now) (a .elapsed) (a .s) (a .marked) (a .opens) (c .before .before .before .before .if2 .left) (omega arith))
+    let a = c .before .before .before .before .before .before .before .before .args in
+    rw (c .before .before .before .before .before .before .before .wide .ensures .0, c .before .wide4 .ensures .0, c .wide5 .ensures .0) (fits-running (job-of (a .t1)) (a .now) (a .elapsed .0) (a .s) (a .marked) (a .opens) (c .before .before .before .before .before .if2 .left) (omega arith))
 
 pub job-fits-spec : {M : Type 1} → statement M
 job-fits-spec =
@@ -104,6 +107,7 @@ job-fits-spec =
     wide-requires-3
     add-result-3
     returns-4
+    cast-ran
     cast-result-2
     add-result-4
     array-read-wide-4

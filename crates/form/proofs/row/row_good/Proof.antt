@@ -45,20 +45,20 @@ elapsed-of-requires c κs = search needs
 
 returns-4 : tie.Need-returns-4
 returns-4 c =
-    let a = c .before .before .before .before .before .before .before .before .before .before .args in
-    let g = c .before .before .before .running .given in
-    rest-bad (a .jobs) (a .n) (a .word) (a .starts) (a .code) (search needs) (search needs) (told-yes (c .before .before .before .before .before .before .before .before .before .ends .ensures) (not-false _ (c .before .before .before .before .before .before .before .before .if1 .left))) (sym (c .before .before .before .before .before .before .before .all-done .ensures) ∙ c .before .before .before .before .before .before .if2 .left) (g .0 .0) (g .0 .1 .0) (g .0 .1 .1 .0)
-    (subst (Tells (sheet-of (a .jobs) (a .n)) (state-of (a .word)) (a .starts) (a .code) (a .n)) (g .1) (c .before .before .before .before .before .pass .ensures)) (rw (c .before .elapsed-of .ensures .0) at (c .if3 .taken))
+    let a = c .before .before .before .before .before .before .before .before .before .before .before .args in
+    let g = c .before .before .before .before .running .given in
+    rest-bad (a .jobs) (a .n) (a .word) (a .starts) (a .code) (search needs) (search needs) (told-yes (c .before .before .before .before .before .before .before .before .before .before .ends .ensures) (not-false _ (c .before .before .before .before .before .before .before .before .before .if1 .left))) (sym (c .before .before .before .before .before .before .before .before .all-done .ensures) ∙ c .before .before .before .before .before .before .before .if2 .left) (g .0 .0) (g .0 .1 .0) (g .0 .1 .1 .0)
+    (subst (Tells (sheet-of (a .jobs) (a .n)) (state-of (a .word)) (a .starts) (a .code) (a .n)) (g .1) (c .before .before .before .before .before .before .pass .ensures)) (rw (c .before .before .elapsed-of .ensures) at (c .if3 .taken))
 
 marks-fit-requires : tie.Need-marks-fit-requires
 marks-fit-requires c κs = search needs
 
 returns-5 : tie.Need-returns-5
 returns-5 c =
-    let a = c .before .before .before .before .before .before .before .before .before .before .before .args in
-    let g = c .before .before .before .before .running .given in
-    rest-row (a .jobs) (a .n) (a .word) (a .starts) (a .code) (search needs) (search needs) (told-yes (c .before .before .before .before .before .before .before .before .before .before .ends .ensures) (not-false _ (c .before .before .before .before .before .before .before .before .before .if1 .left))) (sym (c .before .before .before .before .before .before .before .before .all-done .ensures) ∙ c .before .before .before .before .before .before .before .if2 .left) (g .0 .0) (g .0 .1 .0) (g .0 .1 .1 .0)
-    (subst (Tells (sheet-of (a .jobs) (a .n)) (state-of (a .word)) (a .starts) (a .code) (a .n)) (g .1) (c .before .before .before .before .before .before .pass .ensures)) (rw (c .before .before .elapsed-of .ensures .0) at (c .before .if3 .left))
+    let a = c .before .before .before .before .before .before .before .before .before .before .before .before .args in
+    let g = c .before .before .before .before .before .running .given in
+    rest-row (a .jobs) (a .n) (a .word) (a .starts) (a .code) (search needs) (search needs) (told-yes (c .before .before .before .before .before .before .before .before .before .before .before .ends .ensures) (not-false _ (c .before .before .before .before .before .before .before .before .before .before .if1 .left))) (sym (c .before .before .before .before .before .before .before .before .before .all-done .ensures) ∙ c .before .before .before .before .before .before .before .before .if2 .left) (g .0 .0) (g .0 .1 .0) (g .0 .1 .1 .0)
+    (subst (Tells (sheet-of (a .jobs) (a .n)) (state-of (a .word)) (a .starts) (a .code) (a .n)) (g .1) (c .before .before .before .before .before .before .before .pass .ensures)) (rw (c .before .before .before .elapsed-of .ensures) at (c .before .if3 .left))
     (search needs) (search needs) (c .marks-fit .result) (c .marks-fit .ensures)
 
 pub row-good-spec : {M : Type 1} → statement M
