@@ -163,7 +163,15 @@ module _ (σ : Sheet) (w b c : ℕ) (few : length σ ≤ 8) where
       fits = (small, byte);
       order = record {
         past = e .statuses;
-        state = inr (record { not-done = nf; one-runs = f .alone; rests = λ n. rest (λ r. n (r .0) (r .1) (r .2)); timely = timely; in-time = λ x. late (x .0) (x .1 .names) (x .1 .arrived) (x .1 .unfinished) (x .1 .past) });
+        state =
+            inr (record {
+              not-done = nf;
+              one-runs = f .alone;
+              rests = λ n. rest (λ r. n (r .0) (r .1) (r .2));
+              timely = timely;
+              in-time = λ x. late (x .0)
+                  (x .1 .names) (x .1 .arrived) (x .1 .unfinished) (x .1 .past);
+            });
       };
       marks = record {
         ready = ready;
@@ -218,7 +226,19 @@ module _ (σ : Sheet) (w b c : ℕ) (few : length σ ≤ 8) where
         either g h (inr b) = inr (h b)
 
         up : Marks-fit (running ≡ true) (pending ≡ true) (spent ≡ true) b c → Marks
-        up m = record { idle = λ y. m .idle (either (is-true ir) (is-true ip) y); none = λ y. m .none (either (is-true ip) (is-true is) y); some = λ n. m .some (λ d. n (either (told-yes ip) (told-yes is) d)) }
+        up m =
+            record {
+              idle = λ y. m .idle (either (is-true ir) (is-true ip) y);
+              none = λ y. m .none (either (is-true ip) (is-true is) y);
+              some = λ n. m .some
+                  (λ d. n (either (told-yes ip) (told-yes is) d));
+            }
 
         down : Marks → Marks-fit (running ≡ true) (pending ≡ true) (spent ≡ true) b c
-        down m = record { idle = λ d. m .idle (either (told-yes ir) (told-yes ip) d); none = λ d. m .none (either (told-yes ip) (told-yes is) d); some = λ n. m .some (λ y. n (either (is-true ip) (is-true is) y)) }
+        down m =
+            record {
+              idle = λ d. m .idle (either (told-yes ir) (told-yes ip) d);
+              none = λ d. m .none
+                  (either (told-yes ip) (told-yes is) d);
+              some = λ n. m .some (λ y. n (either (is-true ip) (is-true is) y));
+            }

@@ -74,7 +74,9 @@ module _ {file : List ℕ} {k : ℕ} {σ : Sheet} {rows : List Entry} (sized : S
   }
     where
       byte : (s : ℕ) → s < own → Stands (block-at file (suc k)) (slot-at s) (row-slot (at (part k rows) s))
-      byte s h = slot-of slot-bytes row-slot (λ x. refl) (length σ) (suc k) (total file) (part k rows) (room k rows) (block-at file (suc k)) (r .blocks (suc k) (omega arith)) no-entry s (omega (arith, size))
+      byte s h =
+          slot-of slot-bytes row-slot (λ x. refl) (length σ) (suc k) (total file) (part k rows) (room k rows) (block-at file (suc k))
+          (r .blocks (suc k) (omega arith)) no-entry s (omega (arith, size))
 
       start : u32-at (block-at file (suc k)) (slot-at 0) ≡ at rows (block-slots * k) .word
       start = let e : block-slots * k + 0 ≡ block-slots * k = omega arith in ap (λ (x : Entry). x .word) (rw e at (there 0 (omega (arith, size, own-rows, r .some))))
@@ -188,7 +190,8 @@ module _ {file : List ℕ} {k : ℕ} {σ : Sheet} {rows : List Entry} (sized : S
         old : (b : ℕ) → b ≤ k → block-at file b ≡ block-for (total file) σ (rows ++ more) b
         old zero h = r .blocks 0 (omega arith)
         old (suc b) h =
-            let e : take block-slots (drop (block-slots * b) (rows ++ more)) ≡ part b rows = sym (stretch (block-slots * b) block-slots (block-slots * k) (rows ++ more) (omega arith)) ∙ ap (λ (l : List Entry). part b l) all in
+            let e : take block-slots (drop (block-slots * b) (rows ++ more)) ≡ part b rows = sym
+            (stretch (block-slots * b) block-slots (block-slots * k) (rows ++ more) (omega arith)) ∙ ap (λ (l : List Entry). part b l) all in
             rw e (r .blocks (suc b) h)
 
         new : part k (rows ++ more) ≡ more

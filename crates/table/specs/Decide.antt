@@ -111,7 +111,8 @@ dec-order : (σ : Sheet) (w : ℕ) → Dec (In-order σ (state-of w))
 dec-order σ w =
     by (λ o. record { past = λ i h. past (o .0) i h (decLt i 9); state = o .1 }) (λ o. ((λ i h l. o .past i l), o .state))
     (both (all 9 (λ i. only (decLt (length σ) i) (ℕ-discrete (status (state-of w) i) 0)))
-    (either (by (λ x. (x .0, x .1 .0, x .1 .1)) (λ x. (x .0, (x .1, x .2))) (both (dec-finished σ (state-of w)) (both (ℕ-discrete (state-of w .now) 0) (ℕ-discrete (state-of w .elapsed) 0)))) (dec-under-way σ (state-of w))))
+    (either (by (λ x. (x .0, x .1 .0, x .1 .1)) (λ x. (x .0, (x .1, x .2)))
+    (both (dec-finished σ (state-of w)) (both (ℕ-discrete (state-of w .now) 0) (ℕ-discrete (state-of w .elapsed) 0)))) (dec-under-way σ (state-of w))))
   where
     past : ((i : ℕ) → i < 9 → length σ < i → status (state-of w) i ≡ 0) → (i : ℕ) → length σ < i → Dec (i < 9) → status (state-of w) i ≡ 0
     past f i h (yes l) = f i l h
@@ -131,7 +132,16 @@ module _ (block : List ℕ) where
 
   dec-framed : (n used k total : ℕ) → Dec (Framed slot-bytes n used k total block)
   dec-framed n used k total =
-      by (λ w. record { size = w .0; letters = w .1 .0; jobs = w .1 .1 .0; slots = w .1 .1 .1 .0; number = w .1 .1 .1 .1 .0; count = w .1 .1 .1 .1 .1 .0; zeros = w .1 .1 .1 .1 .1 .1 .0; check = w .1 .1 .1 .1 .1 .1 .1 })
+      by (λ w. record {
+        size = w .0;
+        letters = w .1 .0;
+        jobs = w .1 .1 .0;
+        slots = w .1 .1 .1 .0;
+        number = w .1 .1 .1 .1 .0;
+        count = w .1 .1 .1 .1 .1 .0;
+        zeros = w .1 .1 .1 .1 .1 .1 .0;
+        check = w .1 .1 .1 .1 .1 .1 .1;
+      })
       (λ f. (f .size, (f .letters, (f .jobs, (f .slots, (f .number, (f .count, (f .zeros, f .check))))))))
       (both (ℕ-discrete (length block) block-bytes)
       (both dec-letters

@@ -44,16 +44,20 @@ module _ {file : List ℕ} {σ : Sheet} {rows : List Entry} (s : Says file (good
       go : Dec (i / 4 < length σ) → u16-at file (header-bytes + 2 * i) ≡ number-of (getD σ (i / 4) no-job) (i % 4)
       go (yes l) =
           let e : 8 + 8 * (i / 4) + 2 * (i % 4) ≡ header-bytes + 2 * i = omega arith in
-          sym (in-first file (header-bytes + 2 * i) (omega arith)) ∙ (rw e at (pick (i % 4) (getD σ (i / 4) no-job) (block-at file 0) (slot-at (i / 4)) (omega arith) (job-there (s .0) (s .1) (i / 4) l)))
+          sym (in-first file (header-bytes + 2 * i) (omega arith)) ∙ (rw e at
+          (pick (i % 4) (getD σ (i / 4) no-job) (block-at file 0) (slot-at (i / 4)) (omega arith) (job-there (s .0) (s .1) (i / 4) l)))
       go (no l) =
           let z = jobs-framed (s .0) (s .1) .zeros in
           let a = z (header-bytes + 2 * i) (omega arith) (omega arith) in
           let b = z (header-bytes + 2 * i + 1) (omega arith) (omega arith) in
-          sym (in-first file (header-bytes + 2 * i) (omega arith)) ∙ (omega arith ∙ (none (i % 4) ∙ ap (λ (x : Job). number-of x (i % 4)) (sym (List·getD-eq-default σ no-job {n = i / 4} (omega arith)))))
+          sym (in-first file (header-bytes + 2 * i)
+          (omega arith)) ∙ (omega arith ∙ (none (i % 4) ∙ ap (λ (x : Job). number-of x (i % 4))
+          (sym (List·getD-eq-default σ no-job {n = i / 4} (omega arith)))))
 
   pub numbers-are : tab 32 (λ i. u16-at file (header-bytes + 2 * i)) ≡ numbers-of σ
   numbers-are =
-      ext-getD 0 (tab 32 (λ i. u16-at file (header-bytes + 2 * i))) (numbers-of σ) (length-tab 32 (λ i. u16-at file (header-bytes + 2 * i)) ∙ sym (length-tab 32 (λ i. number-of (getD σ (i / 4) no-job) (i % 4))))
+      ext-getD 0 (tab 32 (λ i. u16-at file (header-bytes + 2 * i))) (numbers-of σ)
+      (length-tab 32 (λ i. u16-at file (header-bytes + 2 * i)) ∙ sym (length-tab 32 (λ i. number-of (getD σ (i / 4) no-job) (i % 4))))
       (λ i h. let l : i < 32 = omega (arith, length-tab 32 (λ i. u16-at file (header-bytes + 2 * i))) in
       getD-tab 32 (λ i. u16-at file (header-bytes + 2 * i)) 0 i l ∙ (number-there i l ∙ sym (getD-tab 32 (λ i. number-of (getD σ (i / 4) no-job) (i % 4)) 0 i l)))
 
@@ -79,5 +83,9 @@ module _ {file : List ℕ} {σ : Sheet} {rows : List Entry} (s : Says file (good
       let p = row-placed s (i - 1) (omega arith) in
       let w : word ≡ at rows (i - 1) .word = d ∙ word-placed s (i - 1) (omega arith) in
       let x : r ≡ told (at rows (i - 1)) = e ∙ ap told p in
-      let m = c ∙ numbers-are s in
-      (good σ rows, s, (λ j. record { number = 0; detail = 0; jobs = sym a j; rows = b j; numbers = m j; word = w j; starts = x j .starts; tick = x j .tick }) ∙ rw (le-leb 1 i l, le-leb i (length rows) h) refl)
+      let m = c ∙ numbers-are s in (
+        good σ rows,
+        s,
+        (λ j. record { number = 0; detail = 0; jobs = sym a j; rows = b j; numbers = m j; word = w j; starts = x j .starts; tick = x j .tick })
+            ∙ rw (le-leb 1 i l, le-leb i (length rows) h) refl,
+      )

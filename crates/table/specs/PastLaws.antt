@@ -61,7 +61,8 @@ module _ (file : List ℕ) (w : ℕ) (sized : Sized file) where
     pub next-refused : ¬ (Rows-block (jobs-in (block-at file 0)) (total file) b (before file b) (block-at file b)) → Judged file w (Bad b)
     next-refused n = inr (sized, h, s .1, next-not file sized b (s .0) h n)
 
-    pub next-read : Each-byte file → Rows-block (jobs-in (block-at file 0)) (total file) b (before file b) (block-at file b) → (n : ℕ) → n ≡ block-slots * (b - 1) + getD (block-at file b) 3 0 → Read-to file b n
+    pub next-read : Each-byte file → Rows-block (jobs-in (block-at file 0)) (total file) b (before file b) (block-at file b) → (n : ℕ)
+        → n ≡ block-slots * (b - 1) + getD (block-at file b) 3 0 → Read-to file b n
     next-read small t n e =
         let x = next-good file sized b (s .0) small h t in
         let d : x .0 ≡ b = omega (arith, x .2) in

@@ -99,7 +99,8 @@ module _ (file : List ℕ) (n w m : ℕ) (a : Ascends file n) (l : m < n) where
 
 -- the first row that is not below has the word, or none has
 module _ {file : List ℕ} {k : ℕ} {σ : Sheet} {rows : List Entry} (sized : Sized file) (r : Reads file k σ rows) (w p : ℕ) where
-  pub found-none : ((i : ℕ) → i < p → u32-at file (place i) < w) → ((i : ℕ) → p ≤ i → i < length rows → w ≤ u32-at file (place i)) → (p < length rows → u32-at file (place p) ≢ w) → Finds rows w Nowhere
+  pub found-none : ((i : ℕ) → i < p → u32-at file (place i) < w) → ((i : ℕ) → p ≤ i → i < length rows → w ≤ u32-at file (place i))
+      → (p < length rows → u32-at file (place p) ≢ w) → Finds rows w Nowhere
   found-none lo hi ne j h e = other (word-lies sized r j h ∙ e) (decLt j p) (decLt p j)
     where
       other : u32-at file (place j) ≡ w → Dec (j < p) → Dec (p < j) → ⊥

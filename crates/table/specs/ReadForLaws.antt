@@ -1,12 +1,10 @@
 -- The blocks read for a word past all others are the whole file. Assumes nothing.
-use Prim.Native.Nat.{ℕ, suc, _-_}
+use Prim.Native.Nat.{ℕ, _-_}
 use native.Mathlib.Omega.{arith}
 use mathlib.Core.Path.{_≡_, sym, subst, _∙_}
 use mathlib.Core.Logic.{inl, inr}
 use mathlib.Core.List.{List}
 use lib.ListN.{length, getD}
-use Rattle.sheet.specs.Model.{Sheet}
-use Rattle.sheet.specs.Table.{Entry}
 use Rattle.blocks.specs.Bytes.{Each-byte}
 use Rattle.table.specs.Reading.{total, Reads, Reading, good, bad, Says}
 use Rattle.table.specs.Read.{reading}

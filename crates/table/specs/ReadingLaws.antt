@@ -94,13 +94,25 @@ module _ {file : List ℕ} {k : ℕ} {σ σ′ : Sheet} {rows rows′ : List Ent
       go zero e = omega (arith, r .few, r′ .few)
       go (suc b) e =
           let c = rows-count sized r b (omega arith) ∙ sym (rows-count sized r′ b (omega arith)) in
-          omega (arith, length-take block-slots (drop (block-slots * b) rows), length-take block-slots (drop (block-slots * b) rows′), length-drop (block-slots * b) rows, length-drop (block-slots * b) rows′, r .few, r′ .few, r .some, r′ .some)
+          omega (
+            arith,
+            length-take block-slots (drop (block-slots * b) rows),
+            length-take block-slots (drop (block-slots * b) rows′),
+            length-drop
+                (block-slots * b) rows,
+            length-drop (block-slots * b) rows′,
+            r .few,
+            r′ .few,
+            r .some,
+            r′ .some,
+          )
 
   pub same-rows : rows ≡ rows′
   same-rows =
       ext-getD no-entry rows rows′ same-count
       (λ i h. let e : block-slots * (i / block-slots) + i % block-slots ≡ i = omega arith in
-      rw (← e) (sym (row-there sized r (i / block-slots) (i % block-slots) (omega arith) (omega arith)) ∙ row-there sized r′ (i / block-slots) (i % block-slots) (omega arith) (omega (arith, same-count))))
+      rw (← e) (sym (row-there sized r (i / block-slots) (i % block-slots) (omega arith) (omega arith)) ∙ row-there sized r′ (i / block-slots)
+      (i % block-slots) (omega arith) (omega (arith, same-count))))
 
 -- the rows in front of good rows are good
 pub rows-front : {σ : Sheet} {rows : List Entry} (m : ℕ) → Good-rows σ rows → Good-rows σ (take m rows)

@@ -103,7 +103,9 @@ module _ {σ : Sheet} {rows : List Entry} (t : Table σ rows) (total : ℕ) (few
 
   block-bytes-of : (b : ℕ) → b < total → Each-byte (block-for total σ rows b)
   block-bytes-of zero h = bytes-block job-slot (λ x. refl) (length σ) 0 total σ no-job (omega (arith, t .sheet .few-jobs)) (omega (arith, t .sheet .few-jobs)) (omega arith) (omega arith) job-bytes
-  block-bytes-of (suc b) h = bytes-block row-slot (λ x. refl) (length σ) (suc b) total (part b rows) no-entry (room b rows) (omega (arith, t .sheet .few-jobs)) (omega arith) (omega arith) (row-bytes b)
+  block-bytes-of (suc b) h =
+      bytes-block row-slot (λ x. refl) (length σ) (suc b) total (part b rows) no-entry (room b rows) (omega (arith, t .sheet .few-jobs)) (omega arith)
+      (omega arith) (row-bytes b)
 
   written-bytes : (k : ℕ) → k ≤ total → Each-byte (written total σ rows k)
   unfolding written

@@ -64,7 +64,9 @@ returns-8 c =
     tell-yes
     (record {
       size = search needs;
-      letters = told-yes (c .before .before .before .before .before .before .before .before .before .before .before .before .before .before .before .letters-stand .ensures) (not-false _ (c .before .before .before .before .before .before .before .before .before .before .before .before .before .before .if1 .left));
+      letters =
+          told-yes (c .before .before .before .before .before .before .before .before .before .before .before .before .before .before .before .letters-stand .ensures)
+          (not-false _ (c .before .before .before .before .before .before .before .before .before .before .before .before .before .before .if1 .left));
       jobs = search needs;
       slots = search needs;
       number = search needs;

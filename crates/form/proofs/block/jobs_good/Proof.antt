@@ -50,7 +50,9 @@ job-good-requires : tie.Need-job-good-requires Inv-loop μ-loop
 job-good-requires c κs = search needs
 
 returns-4 : tie.Need-returns-4 Inv-loop μ-loop
-returns-4 c = tell-no (λ p. told-no (c .before .job-good .ensures) (not-true _ (c .if4 .taken)) (rw (c .before .before .job-at .ensures) (p .slots (c .before .before .before .before .loop .s) (omega arith))))
+returns-4 c =
+    tell-no (λ p. told-no (c .before .job-good .ensures) (not-true _ (c .if4 .taken))
+    (rw (c .before .before .job-at .ensures) (p .slots (c .before .before .before .before .loop .s) (omega arith))))
 
 add-s : tie.Need-add-s Inv-loop μ-loop
 add-s c = search needs
@@ -59,7 +61,11 @@ loop-less : tie.Need-loop-less Inv-loop μ-loop
 loop-less c = search needs
 
 loop-again : tie.Need-loop-again Inv-loop μ-loop
-loop-again c = (search needs, below-more _ _ (c .before .before .before .before .loop .inv .1) (rw (c .before .before .job-at .ensures) at (told-yes (c .before .job-good .ensures) (not-false _ (c .if4 .left)))))
+loop-again c = (
+  search needs,
+  below-more _ _ (c .before .before .before .before .loop .inv .1)
+      (rw (c .before .before .job-at .ensures) at (told-yes (c .before .job-good .ensures) (not-false _ (c .if4 .left)))),
+)
 
 returns-5 : tie.Need-returns-5 Inv-loop μ-loop
 returns-5 c =

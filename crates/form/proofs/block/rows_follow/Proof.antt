@@ -20,7 +20,10 @@ framed-requires : tie.Need-framed-requires
 framed-requires c κs = (search needs, told-yes (c .before .count-fits .ensures) (not-false _ (c .if1 .left)) .few)
 
 returns-2 : tie.Need-returns-2
-returns-2 c = tell-no (λ p. told-no (c .before .framed .ensures) (not-true _ (c .if2 .taken)) (rw (length-sheet (c .before .before .before .before .before .before .args .jobs) (c .before .before .before .before .before .before .args .n) (search needs)) at (p .frame)))
+returns-2 c =
+    tell-no (λ p. told-no (c .before .framed .ensures) (not-true _ (c .if2 .taken))
+    (rw (length-sheet (c .before .before .before .before .before .before .args .jobs) (c .before .before .before .before .before .before .args .n)
+    (search needs)) at (p .frame)))
 
 read32-requires : tie.Need-read32-requires
 read32-requires c κs = search needs
@@ -32,7 +35,14 @@ returns-3 : tie.Need-returns-3
 returns-3 c = tell-no (λ p. told-no (c .before .follows .ensures) (not-true _ (c .if3 .taken)) (rw (c .before .before .read32 .ensures) (p .follows)))
 
 slots-good-requires : tie.Need-slots-good-requires
-slots-good-requires c κs = (search needs, (told-yes (c .before .before .before .before .before .before .count-fits .ensures) (not-false _ (c .before .before .before .before .before .if1 .left)) .few, search needs))
+slots-good-requires c κs = (
+  search needs,
+  (
+    told-yes (c .before .before .before .before .before .before .count-fits .ensures)
+        (not-false _ (c .before .before .before .before .before .if1 .left)) .few,
+    search needs,
+  ),
+)
 
 returns-4 : tie.Need-returns-4
 returns-4 c =

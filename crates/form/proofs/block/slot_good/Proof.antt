@@ -54,7 +54,12 @@ returns-3 c = tell-no (λ p. told-no (c .before .row-good .ensures) (not-true _ 
 returns-4 : tie.Need-returns-4
 returns-4 c =
     let f = told-yes (c .before .before .row-good .ensures) (not-false _ (c .before .if3 .left)) in
-    tell-yes (record { zero-two = (c .before .before .before .before .before .before .before .before .if1 .left, c .before .before .before .before .before .before .if2 .left); form = rw (c .before .before .before .before .before .read32 .ensures) at f; above = λ z. absurd (omega arith) })
+    tell-yes
+    (record {
+      zero-two = (c .before .before .before .before .before .before .before .before .if1 .left, c .before .before .before .before .before .before .if2 .left);
+      form = rw (c .before .before .before .before .before .read32 .ensures) at f;
+      above = λ z. absurd (omega arith);
+    })
 
 sub-read32 : tie.Need-sub-read32
 sub-read32 c = search needs
@@ -74,7 +79,13 @@ returns-5 c = tell-no (λ p. omega (arith, p .above (omega arith), c .before .re
 returns-6 : tie.Need-returns-6
 returns-6 c =
     let f = told-yes (c .before .before .before .before .row-good .ensures) (not-false _ (c .before .before .before .if3 .left)) in
-    tell-yes (record { zero-two = (c .before .before .before .before .before .before .before .before .before .before .if1 .left, c .before .before .before .before .before .before .before .before .if2 .left); form = rw (c .before .before .before .before .before .before .before .read32 .ensures) at f; above = λ z. omega (arith, c .before .read322 .ensures, c .before .before .before .before .before .before .before .read32 .ensures) })
+    let w = c .before .before .before .before .before .before .before .read32 .ensures in
+    tell-yes
+    (record {
+      zero-two = (c .before .before .before .before .before .before .before .before .before .before .if1 .left, c .before .before .before .before .before .before .before .before .if2 .left);
+      form = rw w at f;
+      above = λ z. omega (arith, c .before .read322 .ensures, w);
+    })
 
 pub slot-good-spec : {M : Type 1} → statement M
 slot-good-spec =

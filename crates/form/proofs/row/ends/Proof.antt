@@ -25,7 +25,12 @@ returns-2 : tie.Need-returns-2
 returns-2 c = tell-no (λ e. c .if2 .taken (clear-past (c .before .before .args .n) (c .before .before .args .starts) (search needs) (e .bits)))
 
 returns-3 : tie.Need-returns-3
-returns-3 c = tell-yes (record { statuses = past-none (c .before .before .args .n) (c .before .before .args .word) (c .before .if1 .left); bits = λ i h l. clear-from (c .before .before .args .n) (c .before .before .args .starts) (c .if2 .left) i l })
+returns-3 c =
+    tell-yes (record {
+      statuses = past-none (c .before .before .args .n) (c .before .before .args .word) (c .before .if1 .left);
+      bits = λ i h l. clear-from
+          (c .before .before .args .n) (c .before .before .args .starts) (c .if2 .left) i l;
+    })
 
 pub ends-spec : {M : Type 1} → statement M
 ends-spec = tie.close (tie.spec mul-if1 cast-if1 shr-if1 returns shr-if2 returns-2 returns-3)

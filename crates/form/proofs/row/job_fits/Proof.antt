@@ -55,7 +55,8 @@ add-result-3 c = search needs
 returns-4 : tie.Need-returns-4
 returns-4 c =
     let a = c .before .before .before .before .before .before .args in
-    rw (c .before .before .before .before .before .wide .ensures .0, c .wide3 .ensures .0) (fits-done (job-of (a .t1)) (a .now) (a .elapsed .0) (a .s) (a .marked) (a .opens) (c .before .before .before .if2 .left) (c .before .if4 .taken))
+    rw (c .before .before .before .before .before .wide .ensures .0, c .wide3 .ensures .0)
+    (fits-done (job-of (a .t1)) (a .now) (a .elapsed .0) (a .s) (a .marked) (a .opens) (c .before .before .before .if2 .left) (c .before .if4 .taken))
 
 cast-ran : tie.Need-cast-ran
 cast-ran c = search needs
@@ -87,7 +88,8 @@ add-result-6 c = search needs
 returns-5 : tie.Need-returns-5
 returns-5 c =
     let a = c .before .before .before .before .before .before .before .before .args in
-    rw (c .before .before .before .before .before .before .before .wide .ensures .0, c .before .wide4 .ensures .0, c .wide5 .ensures .0) (fits-running (job-of (a .t1)) (a .now) (a .elapsed .0) (a .s) (a .marked) (a .opens) (c .before .before .before .before .before .if2 .left) (omega arith))
+    rw (c .before .before .before .before .before .before .before .wide .ensures .0, c .before .wide4 .ensures .0, c .wide5 .ensures .0)
+    (fits-running (job-of (a .t1)) (a .now) (a .elapsed .0) (a .s) (a .marked) (a .opens) (c .before .before .before .before .before .if2 .left) (omega arith))
 
 pub job-fits-spec : {M : Type 1} → statement M
 job-fits-spec =

@@ -60,7 +60,8 @@ returns c =
     let st = c .before .before .before .status-in in
     let m = c .before .before .has in
     not-fit (a .t1) (a .n) (a .word) (a .starts) (a .code) (l .k) (search needs) (st .result) (m .result) (st .ensures) (m .ensures)
-    (rw (c .before .before .before .before .before .before .before .before .now-of .ensures .0, c .before .before .before .before .before .before .before .elapsed-of .ensures) at (told-no (c .before .job-fits .ensures) (not-true _ (c .if1 .taken))))
+    (rw (c .before .before .before .before .before .before .before .before .now-of .ensures .0, c .before .before .before .before .before .before .before .elapsed-of .ensures)
+    at (told-no (c .before .job-fits .ensures) (not-true _ (c .if1 .taken))))
 
 returns-2 : tie.Need-returns-2 Inv-loop μ-loop
 returns-2 c =
@@ -91,8 +92,10 @@ loop-again c =
     let n = c .before .before .before .before .before .before .before .before .before .before .before .now-of .ensures .0 in
     let e = c .before .before .before .before .before .before .before .before .before .before .elapsed-of .ensures in (
       search needs,
-      pass-more (a .t1) (a .n) (a .word) (a .starts) (a .code) (l .k) (search needs) (st .result) (m .result) (st .ensures) (m .ensures) (l .running) (l .pending) (l .spent) (c .before .pends .result) (c .spends .result)
-          (rw (n, e) at (told-yes (c .before .before .before .before .job-fits .ensures) (not-false _ (c .before .before .before .if1 .left)))) (c .before .before .if2 .left) (rw n at (c .before .pends .ensures)) (rw e at (c .spends .ensures)) (l .inv .1),
+      pass-more (a .t1) (a .n) (a .word) (a .starts) (a .code) (l .k) (search needs) (st .result) (m .result) (st .ensures) (m .ensures) (l .running)
+          (l .pending) (l .spent) (c .before .pends .result) (c .spends .result)
+          (rw (n, e) at (told-yes (c .before .before .before .before .job-fits .ensures) (not-false _ (c .before .before .before .if1 .left))))
+          (c .before .before .if2 .left) (rw n at (c .before .pends .ensures)) (rw e at (c .spends .ensures)) (l .inv .1),
     )
 
 returns-3 : tie.Need-returns-3 Inv-loop μ-loop

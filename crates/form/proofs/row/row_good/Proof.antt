@@ -24,7 +24,8 @@ all-done-requires c κs = search needs
 returns-2 : tie.Need-returns-2
 returns-2 c =
     let a = c .before .before .before .before .args in
-    done-row (a .jobs) (a .n) (a .word) (a .starts) (a .code) (search needs) (search needs) (told-yes (c .before .before .before .ends .ensures) (not-false _ (c .before .before .if1 .left))) (sym (c .before .all-done .ensures) ∙ c .if2 .taken)
+    done-row (a .jobs) (a .n) (a .word) (a .starts) (a .code) (search needs) (search needs)
+    (told-yes (c .before .before .before .ends .ensures) (not-false _ (c .before .before .if1 .left))) (sym (c .before .all-done .ensures) ∙ c .if2 .taken)
 
 pass-requires : tie.Need-pass-requires
 pass-requires c κs = search needs
@@ -38,7 +39,10 @@ enum-told c = search needs
 returns-3 : tie.Need-returns-3
 returns-3 c =
     let a = c .before .before .before .before .before .before .before .args in
-    jobs-bad (a .jobs) (a .n) (a .word) (a .starts) (a .code) (search needs) (search needs) (told-yes (c .before .before .before .before .before .before .ends .ensures) (not-false _ (c .before .before .before .before .before .if1 .left))) (sym (c .before .before .before .before .all-done .ensures) ∙ c .before .before .before .if2 .left) (subst (Tells (sheet-of (a .jobs) (a .n)) (state-of (a .word)) (a .starts) (a .code) (a .n)) (c .enum-told .given .1) (c .before .before .pass .ensures))
+    jobs-bad (a .jobs) (a .n) (a .word) (a .starts) (a .code) (search needs) (search needs)
+    (told-yes (c .before .before .before .before .before .before .ends .ensures) (not-false _ (c .before .before .before .before .before .if1 .left)))
+    (sym (c .before .before .before .before .all-done .ensures) ∙ c .before .before .before .if2 .left)
+    (subst (Tells (sheet-of (a .jobs) (a .n)) (state-of (a .word)) (a .starts) (a .code) (a .n)) (c .enum-told .given .1) (c .before .before .pass .ensures))
 
 elapsed-of-requires : tie.Need-elapsed-of-requires
 elapsed-of-requires c κs = search needs
@@ -47,8 +51,13 @@ returns-4 : tie.Need-returns-4
 returns-4 c =
     let a = c .before .before .before .before .before .before .before .before .before .before .before .args in
     let g = c .before .before .before .before .running .given in
-    rest-bad (a .jobs) (a .n) (a .word) (a .starts) (a .code) (search needs) (search needs) (told-yes (c .before .before .before .before .before .before .before .before .before .before .ends .ensures) (not-false _ (c .before .before .before .before .before .before .before .before .before .if1 .left))) (sym (c .before .before .before .before .before .before .before .before .all-done .ensures) ∙ c .before .before .before .before .before .before .before .if2 .left) (g .0 .0) (g .0 .1 .0) (g .0 .1 .1 .0)
-    (subst (Tells (sheet-of (a .jobs) (a .n)) (state-of (a .word)) (a .starts) (a .code) (a .n)) (g .1) (c .before .before .before .before .before .before .pass .ensures)) (rw (c .before .before .elapsed-of .ensures) at (c .if3 .taken))
+    rest-bad (a .jobs) (a .n) (a .word) (a .starts) (a .code) (search needs) (search needs)
+    (told-yes (c .before .before .before .before .before .before .before .before .before .before .ends .ensures)
+    (not-false _ (c .before .before .before .before .before .before .before .before .before .if1 .left)))
+    (sym (c .before .before .before .before .before .before .before .before .all-done .ensures) ∙ c .before .before .before .before .before .before .before .if2 .left)
+    (g .0 .0) (g .0 .1 .0) (g .0 .1 .1 .0)
+    (subst (Tells (sheet-of (a .jobs) (a .n)) (state-of (a .word)) (a .starts) (a .code) (a .n)) (g .1)
+    (c .before .before .before .before .before .before .pass .ensures)) (rw (c .before .before .elapsed-of .ensures) at (c .if3 .taken))
 
 marks-fit-requires : tie.Need-marks-fit-requires
 marks-fit-requires c κs = search needs
@@ -57,8 +66,13 @@ returns-5 : tie.Need-returns-5
 returns-5 c =
     let a = c .before .before .before .before .before .before .before .before .before .before .before .before .args in
     let g = c .before .before .before .before .before .running .given in
-    rest-row (a .jobs) (a .n) (a .word) (a .starts) (a .code) (search needs) (search needs) (told-yes (c .before .before .before .before .before .before .before .before .before .before .before .ends .ensures) (not-false _ (c .before .before .before .before .before .before .before .before .before .before .if1 .left))) (sym (c .before .before .before .before .before .before .before .before .before .all-done .ensures) ∙ c .before .before .before .before .before .before .before .before .if2 .left) (g .0 .0) (g .0 .1 .0) (g .0 .1 .1 .0)
-    (subst (Tells (sheet-of (a .jobs) (a .n)) (state-of (a .word)) (a .starts) (a .code) (a .n)) (g .1) (c .before .before .before .before .before .before .before .pass .ensures)) (rw (c .before .before .before .elapsed-of .ensures) at (c .before .if3 .left))
+    rest-row (a .jobs) (a .n) (a .word) (a .starts) (a .code) (search needs) (search needs)
+    (told-yes (c .before .before .before .before .before .before .before .before .before .before .before .ends .ensures)
+    (not-false _ (c .before .before .before .before .before .before .before .before .before .before .if1 .left)))
+    (sym (c .before .before .before .before .before .before .before .before .before .all-done .ensures) ∙ c .before .before .before .before .before .before .before .before .if2 .left)
+    (g .0 .0) (g .0 .1 .0) (g .0 .1 .1 .0)
+    (subst (Tells (sheet-of (a .jobs) (a .n)) (state-of (a .word)) (a .starts) (a .code) (a .n)) (g .1)
+    (c .before .before .before .before .before .before .before .pass .ensures)) (rw (c .before .before .before .elapsed-of .ensures) at (c .before .if3 .left))
     (search needs) (search needs) (c .marks-fit .result) (c .marks-fit .ensures)
 
 pub row-good-spec : {M : Type 1} → statement M

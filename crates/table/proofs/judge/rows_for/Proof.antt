@@ -92,7 +92,9 @@ module _ (c : tie.After-rows-to Inv-loop μ-loop) where
   good = block-good (file d) _ _ _ (jobs d) (d .rows-good .ensures) (not-false _ (c .before .if1 .left))
 
   read : Read-to (file d) (b d) (c .rows-to .result)
-  read = next-read (file d) (word d) (opens d .0) (b d) (past d) (within d) (λ i. omega (arith, d .before .before .before .before .before .before .shared-slice-known .given i)) good _ (c .rows-to .ensures)
+  read =
+      next-read (file d) (word d) (opens d .0) (b d) (past d) (within d)
+      (λ i. omega (arith, d .before .before .before .before .before .before .shared-slice-known .given i)) good _ (c .rows-to .ensures)
 
 sub-word-at : tie.Need-sub-word-at Inv-loop μ-loop
 sub-word-at c = omega (arith, good c .count .some, c .rows-to .ensures)

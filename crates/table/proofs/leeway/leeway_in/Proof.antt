@@ -27,7 +27,9 @@ refusal-requires-2 : tie.Need-refusal-requires-2
 refusal-requires-2 c κs = search needs
 
 returns-2 : tie.Need-returns-2
-returns-2 c = rw (c .refusal2 .ensures) (leeway-nine (c .before .before .before .before .pre .2) (c .before .before .before .before .args .word) (c .before .before .before .before .args .job) (λ h. omega (arith, h .1, c .before .before .before .before .pre .3)))
+returns-2 c =
+    rw (c .refusal2 .ensures) (leeway-nine (c .before .before .before .before .pre .2) (c .before .before .before .before .args .word)
+    (c .before .before .before .before .args .job) (λ h. omega (arith, h .1, c .before .before .before .before .pre .3)))
 
 find-requires : tie.Need-find-requires
 find-requires c κs = let p = c .before .before .before .pre in (total (c .before .before .before .args .file .now) - 1, p .0, p .1, p .2 .0, p .2 .1, p .4)
@@ -143,7 +145,8 @@ returns-5 c =
     let a = f r in
     let g = good-job r in
     let now = word a / 2 ^ 24 in
-    let fits = left-fits (r .before .before .read16 .result) (r .read163 .result) (r .before .read162 .result) now (omega (arith, g .early, arrives r, due r)) (omega (arith, g .fits, most r, due r)) (search needs) in
+    let fits = left-fits (r .before .before .read16 .result) (r .read163 .result) (r .before .read162 .result) now (omega (arith, g .early, arrives r, due r))
+    (omega (arith, g .fits, most r, due r)) (search needs) in
     let left = toZ-ofZ w32 (c .left .result) (rw (c .left .ensures) fits) ∙ c .left .ensures ∙ (λ i. ticks-left (arrives r i) (due r i) (most r i) now) in
     let place = subst (Finds (rows a) (word a)) (c .before .before .before .before .before .before .enum-told .given .1) (found a) in
     leeway-told (says a) (word a) (number a) (named a) _ place (rw (c .before .before .before .before .before .status-in .ensures) at (c .before .before .before .before .if3 .left)) _ left

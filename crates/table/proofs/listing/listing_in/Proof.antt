@@ -43,7 +43,8 @@ returns-3 c =
     let a = c .before .before .before .before .before .before in
     let n = c .before .numbers-of in
     let r = c .before .before .row-at in
-    list-found (a .pre .2) (a .args .row-number) (a .args .n) (a .args .count) (c .word-at .result) (n .result) (r .result) (a .pre .3) (sym (a .pre .4)) (n .ensures) (c .word-at .ensures) (r .ensures) (omega arith) (omega (arith, a .pre .4))
+    list-found (a .pre .2) (a .args .row-number) (a .args .n) (a .args .count) (c .word-at .result) (n .result) (r .result) (a .pre .3) (sym (a .pre .4))
+    (n .ensures) (c .word-at .ensures) (r .ensures) (omega arith) (omega (arith, a .pre .4))
 
 pub listing-in-spec : {M : Type 1} → statement M
 listing-in-spec =

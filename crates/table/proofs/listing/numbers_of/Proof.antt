@@ -42,11 +42,19 @@ loop-less c = search needs
 
 loop-again : tie.Need-loop-again Inv-loop μ-loop
 loop-again c =
-    let l = c .before .before .loop in
-    (omega arith, (simp length-set (search needs), fill-turn (l .out) (λ i. u16-at (c .before .before .before .before .args .file .now) (header-bytes + 2 * i)) (l .i) (c .read16 .result) (omega arith) (c .read16 .ensures) (l .inv .1 .1)))
+    let l = c .before .before .loop in (
+      omega arith,
+      (
+        simp length-set (search needs),
+        fill-turn (l .out) (λ i. u16-at (c .before .before .before .before .args .file .now) (header-bytes + 2 * i))
+            (l .i) (c .read16 .result) (omega arith) (c .read16 .ensures) (l .inv .1 .1),
+      ),
+    )
 
 returns : tie.Need-returns Inv-loop μ-loop
-returns c = numbers-tab (c .before .loop .out) 32 (λ i. u16-at (c .before .before .before .args .file .now) (header-bytes + 2 * i)) (c .before .loop .inv .1 .0) (λ k h. c .before .loop .inv .1 .1 k (omega arith))
+returns c =
+    numbers-tab (c .before .loop .out) 32 (λ i. u16-at (c .before .before .before .args .file .now) (header-bytes + 2 * i)) (c .before .loop .inv .1 .0)
+    (λ k h. c .before .loop .inv .1 .1 k (omega arith))
 
 pub numbers-of-spec : {M : Type 1} → statement M
 numbers-of-spec =

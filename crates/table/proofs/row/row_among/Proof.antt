@@ -18,7 +18,9 @@ enum-told : tie.Need-enum-told
 enum-told c = search needs
 
 returns : tie.Need-returns
-returns c = λ k σ rows r e. sym (lookup-none (c .before .before .before .before .args .word) rows (subst (Finds rows (c .before .before .before .before .args .word)) (c .enum-told .given .1) (c .before .before .find .ensures k σ rows r e)))
+returns c =
+    λ k σ rows r e. sym (lookup-none (c .before .before .before .before .args .word) rows
+    (subst (Finds rows (c .before .before .before .before .args .word)) (c .enum-told .given .1) (c .before .before .find .ensures k σ rows r e)))
 
 row-at-requires : tie.Need-row-at-requires
 row-at-requires c κs =
@@ -27,7 +29,11 @@ row-at-requires c κs =
     (omega (arith, f .0, read-few (p .3) (p .4)), lies-end (p .3) (p .4) _ (f .0))
 
 returns-2 : tie.Need-returns-2
-returns-2 c = λ k σ rows r e. c .row-at .ensures ∙ lookup-found (c .before .before .before .before .before .before .pre .3) r (c .before .before .before .before .before .before .args .word) _ (subst (Finds rows (c .before .before .before .before .before .before .args .word)) (c .before .before .i .given .1) (c .before .before .before .before .find .ensures k σ rows r e))
+returns-2 c =
+    λ k σ rows r e. c .row-at .ensures ∙ lookup-found (c .before .before .before .before .before .before .pre .3) r
+    (c .before .before .before .before .before .before .args .word) _
+    (subst (Finds rows (c .before .before .before .before .before .before .args .word)) (c .before .before .i .given .1)
+    (c .before .before .before .before .find .ensures k σ rows r e))
 
 pub row-among-spec : {M : Type 1} → statement M
 row-among-spec = tie.close (tie.spec find-requires enum-known-i enum-told returns row-at-requires returns-2)
