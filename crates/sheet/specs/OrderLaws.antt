@@ -13,7 +13,8 @@ use Rattle.plant.specs.Reflect.{is-dec, is-true, is-false}
 use Rattle.plant.specs.Asked.{Named}
 use Rattle.plant.specs.Sums.{greatest-le}
 use Rattle.plant.specs.SafeLaws.{live-not-late}
-use Rattle.plant.specs.JobLaws.{Tidy, via-tidy, self}
+use Rattle.plant.specs.CountLaws.{self}
+use Rattle.plant.specs.TidyLaws.{Tidy, via-tidy}
 use Rattle.plant.specs.Turns.{turned-at, zeros-at, turn-other, was-done}
 use Rattle.plant.specs.Shop.{turn}
 use Rattle.plant.specs.Once.{on, now-latest}

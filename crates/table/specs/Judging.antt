@@ -9,8 +9,8 @@ use Rattle.sheet.specs.Table.{Entry}
 use Rattle.form.specs.BlockTest.{Jobs-block}
 use Rattle.table.specs.Reading.{total, block-at, Sized, Says, good, bad}
 use Rattle.table.specs.ReadFor.{Read-for}
-use Rattle.table.specs.declared.judge.Verdict.{Verdict}
-use Rattle.table.specs.declared.judge.Verdict.the-variants.{Bad, Good}
+use Rattle.table.specs.declared.judge.Judgement.{Judgement}
+use Rattle.table.specs.declared.judge.Judgement.the-variants.{Bad, Good}
 
 -- a length that files have, and a good block 0
 abbrev pub Opens : List ℕ → Type 0
@@ -20,7 +20,7 @@ abbrev pub Opened : List ℕ → Bool → Type 0
 Opened file true = Opens file
 Opened file false = Says file (bad 0)
 
-abbrev pub Judged : List ℕ → ℕ → Verdict → Type 0
+abbrev pub Judged : List ℕ → ℕ → Judgement → Type 0
 Judged file w (Bad b) = Read-for file w (bad b)
 Judged file w (Good n) = (σ : Sheet) × (rows : List Entry) × Read-for file w (good σ rows) × (length rows ≡ n)
 

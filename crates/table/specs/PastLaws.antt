@@ -22,7 +22,7 @@ use Rattle.table.specs.JobsRight.{jobs-in, jobs-open}
 use Rattle.table.specs.FileRight.{So-far, first-good, next-not, next-good}
 use Rattle.table.specs.Places.{place}
 use Rattle.table.specs.PlaceLaws.{rows-read, word-lies, lies-end, read-few}
-use Rattle.table.specs.declared.judge.Verdict.the-variants.{Bad, Good}
+use Rattle.table.specs.declared.judge.Judgement.the-variants.{Bad, Good}
 
 -- the blocks below `b` are read and gone past
 abbrev pub Past : List ℕ → ℕ → ℕ → Type 0

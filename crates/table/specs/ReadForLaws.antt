@@ -12,7 +12,7 @@ use Rattle.table.specs.ReadLaws.{answer-is}
 use Rattle.table.specs.ReadFor.{Read-for, Answers-for, past-all}
 use Rattle.table.specs.PlaceLaws.{jobs-number}
 use Rattle.table.specs.Judging.{Judged, Counts}
-use Rattle.table.specs.declared.judge.Verdict.the-variants.{Good}
+use Rattle.table.specs.declared.judge.Judgement.the-variants.{Good}
 
 pub read-whole : (file : List ℕ) (x : Reading) → Read-for file past-all x → Says file x
 read-whole file (good σ rows) (k, sized, past, r, inl e) = let d : k ≡ total file - 1 = omega arith in (sized, subst (λ (m : ℕ). Reads file m σ rows) d r)

@@ -22,7 +22,7 @@ use form::block::jobs_of;
 use form::block::rows_follow;
 
 // The bad block that ended the reading, or the number of rows in the blocks read.
-pub enum Verdict {
+pub enum Judgement {
     Bad(u32),
     Good(u32),
 }
@@ -68,7 +68,7 @@ fn rows_good(file: &[u8], b: usize, total: usize, jobs: [[u16; 4]; 8], n: u8) ->
 }
 
 // The blocks of rows read for a word, where block 0 is good. Blocks 0 to `passed` are good and end below the word.
-fn rows_for(file: &[u8], word: u64) -> Verdict
+fn rows_for(file: &[u8], word: u64) -> Judgement
     requires { ⌜ Opens (now file) ⌝ }
     ensures { λ r. ⌜ Judged (now (file .entry)) word r ⌝ }
 {
@@ -80,24 +80,24 @@ fn rows_for(file: &[u8], word: u64) -> Verdict
     while passed + 1 < total {
         let b = passed + 1;
         if !rows_good(file, b, total, jobs, n) {
-            return Verdict::Bad(b as u32);
+            return Judgement::Bad(b as u32);
         }
         let rows = rows_to(file, b);
         if word <= word_at(file, rows - 1) as u64 {
-            return Verdict::Good(rows as u32);
+            return Judgement::Good(rows as u32);
         }
         passed = b;
     }
     let all = count_rows(file) as u32;
-    Verdict::Good(all)
+    Judgement::Good(all)
 }
 
 // The blocks of a file read for a word: the first that is bad ends the reading, or the first that does not end below the word.
-pub fn read_for(file: &[u8], word: u64) -> Verdict
+pub fn read_for(file: &[u8], word: u64) -> Judgement
     ensures { λ r. ⌜ Judged (now (file .entry)) word r ⌝ }
 {
     if !opens(file) {
-        return Verdict::Bad(0);
+        return Judgement::Bad(0);
     }
     rows_for(file, word)
 }

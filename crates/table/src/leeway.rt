@@ -4,8 +4,8 @@ ghost use Prim.Native.Nat.{_≤_, _+_};
 ghost use Rattle.table.specs.Judging.{Counts};
 ghost use Rattle.table.specs.Replies.{Answers, ticks-left, no-leeway, leeway-reply};
 ghost use Rattle.table.specs.Read.{reading};
+use crate::judge::Judgement;
 use crate::judge::PAST_ALL;
-use crate::judge::Verdict;
 use crate::judge::read_for;
 use crate::place::Found;
 use crate::place::find;
@@ -73,9 +73,9 @@ fn leeway_in(file: &[u8], n: u8, count: u32, word: u32, job: u32) -> LeewayReply
 pub fn leeway(file: &[u8], word: u32, job: u32) -> LeewayReply
     ensures { λ r. ⌜ r ≡ leeway-reply word job (reading (now (file .entry))) ⌝ }
 {
-    let verdict = read_for(file, PAST_ALL);
-    match verdict {
-        Verdict::Bad(b) => refusal(7, b),
-        Verdict::Good(count) => leeway_in(file, file[3], count, word, job),
+    let judgement = read_for(file, PAST_ALL);
+    match judgement {
+        Judgement::Bad(b) => refusal(7, b),
+        Judgement::Good(count) => leeway_in(file, file[3], count, word, job),
     }
 }

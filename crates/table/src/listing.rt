@@ -8,8 +8,8 @@ ghost use Rattle.blocks.specs.Held.{tab};
 ghost use Rattle.table.specs.Judging.{Counts};
 ghost use Rattle.table.specs.Replies.{Answers, unlisted, listing-reply};
 ghost use Rattle.table.specs.Read.{reading};
+use crate::judge::Judgement;
 use crate::judge::PAST_ALL;
-use crate::judge::Verdict;
 use crate::judge::read_for;
 use crate::place::word_at;
 use crate::row::row_at;
@@ -90,9 +90,9 @@ fn listing_in(file: &[u8], n: u8, count: u32, row_number: u32) -> ListingReply
 pub fn listing(file: &[u8], row_number: u32) -> ListingReply
     ensures { λ r. ⌜ r ≡ listing-reply «row_number» (reading (now (file .entry))) ⌝ }
 {
-    let verdict = read_for(file, PAST_ALL);
-    match verdict {
-        Verdict::Bad(b) => unlisted_reply(7, b),
-        Verdict::Good(count) => listing_in(file, file[3], count, row_number),
+    let judgement = read_for(file, PAST_ALL);
+    match judgement {
+        Judgement::Bad(b) => unlisted_reply(7, b),
+        Judgement::Good(count) => listing_in(file, file[3], count, row_number),
     }
 }

@@ -12,8 +12,8 @@ ghost use Rattle.table.specs.Replies.{told, lookup, row-reply};
 ghost use Rattle.table.specs.Read.{reading};
 ghost use Rattle.table.specs.ReadFor.{Answers-for};
 ghost use Rattle.table.specs.Places.{place, Read-rows};
+use crate::judge::Judgement;
 use crate::judge::PAST_ALL;
-use crate::judge::Verdict;
 use crate::judge::read_for;
 use crate::place::Found;
 use crate::place::find;
@@ -62,15 +62,15 @@ fn row_among(file: &[u8], n: usize, word: u32) -> RowReply
 pub fn row_read(file: &[u8], until: u64, word: u32) -> RowReply
     ensures { λ r. ⌜ Answers-for (now (file .entry)) until (row-reply word) r ⌝ }
 {
-    let verdict = read_for(file, until);
-    match verdict {
-        Verdict::Bad(b) => RowReply {
+    let judgement = read_for(file, until);
+    match judgement {
+        Judgement::Bad(b) => RowReply {
             number: 7,
             detail: b,
             starts: 0,
             tick: 0,
         },
-        Verdict::Good(n) => row_among(file, n as usize, word),
+        Judgement::Good(n) => row_among(file, n as usize, word),
     }
 }
 

@@ -16,7 +16,7 @@ use Rattle.table.specs.Judging.{Opens, Judged}
 use Rattle.table.specs.FileRight.{sheet-is}
 use Rattle.table.specs.PlaceLaws.{read-few}
 use Rattle.table.specs.PastLaws.{Past, Read-to, block-good, block-bad, past-first, next-refused, next-read, last-there, next-stops, next-past, past-last}
-use Rattle.table.specs.declared.judge.Verdict.the-variants.{Good}
+use Rattle.table.specs.declared.judge.Judgement.the-variants.{Good}
 use Rattle.table.proofs.judge.rows_for.Statement.{statement}
 use Rattle.table.proofs.judge.rows_for.Tie as tie
 

@@ -17,8 +17,8 @@ use Rattle.table.proofs.leeway.leeway.Tie as tie
 read-for-requires : tie.Need-read-for-requires
 read-for-requires c κs = search needs
 
-enum-known-verdict : tie.Need-enum-known-verdict
-enum-known-verdict c = search needs
+enum-known-judgement : tie.Need-enum-known-judgement
+enum-known-judgement c = search needs
 
 refusal-requires : tie.Need-refusal-requires
 refusal-requires c κs = search needs
@@ -34,25 +34,25 @@ module _ (c : tie.After-read-for) where
   judged : Judged file past-all (c .read-for .result)
   judged = c .read-for .ensures
 
-enum-known-verdict-2 : tie.Need-enum-known-verdict-2
-enum-known-verdict-2 c = search needs
+enum-known-judgement-2 : tie.Need-enum-known-judgement-2
+enum-known-judgement-2 c = search needs
 
 shared-slice-read-leeway-in : tie.Need-shared-slice-read-leeway-in
 shared-slice-read-leeway-in c =
     let d = c .before .before .before .before in
-    let s = subst (Judged (file d) past-all) (c .before .before .verdict2 .given .1) (judged d) .2 .1 in
+    let s = subst (Judged (file d) past-all) (c .before .before .judgement2 .given .1) (judged d) .2 .1 in
     omega (arith, s .whole, s .long)
 
 leeway-in-requires : tie.Need-leeway-in-requires
 leeway-in-requires c κs =
     let d = c .before .before .before .before in
-    whole-counts (file d) _ _ refl (subst (Judged (file d) past-all) (c .before .before .verdict2 .given .1) (judged d))
+    whole-counts (file d) _ _ refl (subst (Judged (file d) past-all) (c .before .before .judgement2 .given .1) (judged d))
 
 returns : tie.Need-returns
 returns c =
     let d = c .before .before .before .before in
     let a = d .before .before .args in
-    let b = subst (Judged (file d) past-all) (c .before .before .verdict .given .1) (judged d) in
+    let b = subst (Judged (file d) past-all) (c .before .before .judgement .given .1) (judged d) in
     answer-is (file d) (small d) (leeway-reply (a .word) (a .job)) _ (bad _, read-whole (file d) (bad _) b, c .refusal .ensures)
 
 returns-2 : tie.Need-returns-2
@@ -66,9 +66,9 @@ leeway-spec =
     tie.close
     (tie.spec
     read-for-requires
-    enum-known-verdict
+    enum-known-judgement
     refusal-requires
-    enum-known-verdict-2
+    enum-known-judgement-2
     shared-slice-read-leeway-in
     leeway-in-requires
     returns
