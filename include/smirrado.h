@@ -54,11 +54,11 @@ extern "C" {
 #endif
 
 #define SMIRRADO_MAKE_STACK 102400   /* measured: 98,648 */
-#define SMIRRADO_ROW_STACK 512       /* 277 */
-#define SMIRRADO_ROW_QUICK_STACK 512 /* 277 */
-#define SMIRRADO_LISTING_STACK 512   /* 357 */
-#define SMIRRADO_LEEWAY_STACK 512    /* 293 */
-#define SMIRRADO_STEP_STACK 512      /* 421 */
+#define SMIRRADO_ROW_STACK 512       /* 269 */
+#define SMIRRADO_ROW_QUICK_STACK 512 /* 269 */
+#define SMIRRADO_LISTING_STACK 512   /* 349 */
+#define SMIRRADO_LEEWAY_STACK 512    /* 285 */
+#define SMIRRADO_STEP_STACK 512      /* 413 */
 #define SMIRRADO_ENGINE_STACK 131072 /* 55,833 */
 
 #define SMIRRADO_JOBS 8           /* the most jobs of a sheet */
