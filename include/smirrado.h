@@ -33,9 +33,9 @@
  * MEMORY, THREADS AND STACK
  *
  * The library allocates nothing, makes no system call, has no variables and keeps nothing from
- * call to call; of the C library it uses memcpy and memset alone. So any number of threads may
- * call it at the same time, each with its own work, out and desk; they may share a sheet or a file
- * that nobody changes.
+ * call to call; of the C library it uses memcpy, memmove and memset alone. So any number of
+ * threads may call it at the same time, each with its own work, out and desk; they may share a
+ * sheet or a file that nobody changes.
  *
  * A call takes at most so many bytes of stack, counted from the caller's stack pointer down, the
  * return address among them: few enough for an interrupt's stack, but for make and engine, which
@@ -53,7 +53,7 @@
 extern "C" {
 #endif
 
-#define SMIRRADO_MAKE_STACK 102400   /* measured: 98,648 */
+#define SMIRRADO_MAKE_STACK 40960    /* measured: 34,664 */
 #define SMIRRADO_ROW_STACK 512       /* 269 */
 #define SMIRRADO_ROW_QUICK_STACK 512 /* 269 */
 #define SMIRRADO_LISTING_STACK 512   /* 349 */

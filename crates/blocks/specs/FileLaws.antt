@@ -12,7 +12,7 @@ use Rattle.blocks.specs.Sizes.{block-bytes, block-slots, slot-bytes, mos
 use Rattle.blocks.specs.File.{block-of, job-slot, row-slot, block-for, written, blocks-of, bytes-of}
 use Rattle.sheet.specs.Arrays.{job-of, sheet-of}
 use Rattle.sheet.specs.ArraysLaws.{length-sheet}
-use Rattle.blocks.specs.Held.{entry-of, tab, entries-from, entries-of}
+use Rattle.blocks.specs.Held.{tab}
 use Rattle.blocks.specs.TabLaws.{take-is-tab, part-tab, map-tab}
 use Rattle.blocks.specs.BlockLaws.{block-length}
 
@@ -57,9 +57,9 @@ module _ (js : List (List ℕ)) (n : ℕ) (l : length js ≡ most-jobs) (h : n �
   jobs-block t rows block e = rw (length-sheet js n (omega arith)) e
 
 -- block b has the rows from 62 × (b − 1) on
-pub rows-block : (n t b count used : ℕ) (words marks : List ℕ) (σ : Sheet) (block : List ℕ) → 1 ≤ b → length σ ≡ n → used ≡ min block-slots (count - block-slots * (b - 1))
-    → block ≡ block-of n b t (map row-slot (entries-from words marks (block-slots * (b - 1)) used)) → block ≡ block-for t σ (entries-of words marks count) b
-rows-block n t zero count used words marks σ block h l u e = absurd (omega arith)
-rows-block n t (suc k) count used words marks σ block h l u e =
+pub rows-block : (n t b count used : ℕ) (f : ℕ → Entry) (σ : Sheet) (block : List ℕ) → 1 ≤ b → length σ ≡ n → used ≡ min block-slots (count - block-slots * (b - 1))
+    → block ≡ block-of n b t (map row-slot (tab used (λ i. f (block-slots * (b - 1) + i)))) → block ≡ block-for t σ (tab count f) b
+rows-block n t zero count used f σ block h l u e = absurd (omega arith)
+rows-block n t (suc k) count used f σ block h l u e =
     let d : suc k - 1 ≡ k = omega arith in
-    e ∙ rw (u, l, d, part-tab block-slots (block-slots * k) count (entry-of words marks)) refl
+    e ∙ rw (u, l, d, part-tab block-slots (block-slots * k) count f) refl

@@ -1,6 +1,6 @@
 -- The maker.
-pub mod Gathering
-pub mod GatheringLaws
+-- A reader believes this:
 pub mod Making
+-- What follows:
 pub mod MakingLaws
 pub mod OneAnswer

@@ -18,8 +18,7 @@ use Rattle.sheet.specs.RowsLaws.{rows-good, rows-number}
 use Rattle.blocks.specs.Sizes.{block-bytes, most-blocks, most-rows}
 use Rattle.blocks.specs.File.{bytes-of}
 use Rattle.blocks.specs.FileLaws.{length-bytes}
-use Rattle.ascending.specs.Ascending.{work-words}
-use Rattle.live.specs.Growing.{most-live}
+use Rattle.places.specs.Places.{most-live, work-words}
 use Rattle.state.specs.Lent.{lent}
 use Rattle.maker.specs.Making.{Sheet-length, size-of, Made, Answered}
 use Rattle.maker.specs.Making as making

@@ -14,7 +14,7 @@ use Rattle.sheet.specs.Model.{Sheet, Good, plant}
 use Rattle.sheet.specs.RowsLaws.{rows-one}
 use Rattle.state.specs.Lowest.{lowest-bad}
 use Rattle.state.specs.LowestLaws.{good-sheet}
-use Rattle.live.specs.Growing.{most-live}
+use Rattle.places.specs.Places.{most-live}
 use Rattle.state.specs.Lent.{lent}
 use Rattle.lines.specs.Lines.{listing-text}
 use Rattle.text.specs.SheetText.{Spells}

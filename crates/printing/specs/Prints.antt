@@ -10,7 +10,7 @@ use Rattle.sheet.specs.Model.{Good, initial, plant}
 use Rattle.sheet.specs.Table.{Entry, Rows}
 use Rattle.state.specs.Lowest.{lowest-bad}
 use Rattle.blocks.specs.Sizes.{most-rows}
-use Rattle.live.specs.Growing.{most-live}
+use Rattle.places.specs.Places.{most-live}
 use Rattle.state.specs.Lent.{lent}
 use Rattle.lines.specs.Lines.{line-bytes, listing-text, refusal-text}
 use Rattle.text.specs.SheetText.{Spells}

@@ -26,7 +26,7 @@ fn put_sheet(out: &mut [u8], numbers: &[u16]) -> usize
     requires { ⌜ Sheet-length (now numbers) × (most-printed ≤ length (now out)) ⌝ }
     ensures { λ r. ⌜ Sheet-printed (now (numbers .entry)) (now (out .entry)) r (now (out .exit)) ⌝ }
 {
-    let mut work = [0u32; ascending::WORK];
+    let mut work = [0u32; places::WORK];
     let mut file = [0u8; FILE];
     let reply = make(numbers, &mut work, &mut file);
     let number = reply.number;

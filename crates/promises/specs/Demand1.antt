@@ -10,8 +10,7 @@ use Rattle.plant.specs.Plant.{Live, Safe}
 use Rattle.plant.specs.Number.{Number}
 use Rattle.sheet.specs.Model.{Good, initial, plant}
 use Rattle.sheet.specs.Table.{Entry, Rows}
-use Rattle.ascending.specs.Ascending.{work-words}
-use Rattle.live.specs.Growing.{most-live}
+use Rattle.places.specs.Places.{most-live, work-words}
 use Rattle.state.specs.Lent.{lent}
 use Rattle.state.specs.Lowest.{lowest-bad}
 use Rattle.maker.specs.Making.{Sheet-length, size-of, Cleared}

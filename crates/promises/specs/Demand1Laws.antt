@@ -18,7 +18,7 @@ use Rattle.sheet.specs.Table.{Entry, Rows}
 use Rattle.sheet.specs.RowsLaws.{rows-one}
 use Rattle.blocks.specs.File.{bytes-of}
 use Rattle.blocks.specs.FileLaws.{length-bytes}
-use Rattle.live.specs.Growing.{most-live}
+use Rattle.places.specs.Places.{most-live}
 use Rattle.state.specs.Lent.{lent}
 use Rattle.state.specs.LowestLaws.{good-sheet}
 use Rattle.maker.specs.Making.{refused, size-of, Cleared, Answered, too-many, impossible, too-long, done, Made, bad-length, bad-job, no-room, answered}

@@ -12,8 +12,7 @@ use Rattle.sheet.specs.Model.{Sheet, Good, initial, plant}
 use Rattle.sheet.specs.Demand3.{demand-3}
 use Rattle.state.specs.Lowest.{lowest-bad}
 use Rattle.state.specs.LowestLaws.{good-sheet}
-use Rattle.ascending.specs.Ascending.{work-words}
-use Rattle.live.specs.Growing.{most-live}
+use Rattle.places.specs.Places.{most-live, work-words}
 use Rattle.state.specs.Lent.{lent}
 use Rattle.maker.specs.Making.{Sheet-length, Answered, Made}
 use Rattle.maker.specs.Making as maker

@@ -19,8 +19,7 @@ use Rattle.table.specs.Reading.{Reading, good, bad}
 use Rattle.table.specs.ReadingLaws.{at-block, jobs-framed}
 use Rattle.table.specs.Read.{reading}
 use Rattle.table.specs.ReadLaws.{reading-says}
-use Rattle.ascending.specs.Ascending.{work-words}
-use Rattle.live.specs.Growing.{most-live}
+use Rattle.places.specs.Places.{most-live, work-words}
 use Rattle.state.specs.Lent.{lent}
 use Rattle.maker.specs.Making.{Sheet-length, Answered, too-many, impossible, too-long, done, Made, bad-length, bad-job, no-room, answered}
 use Rattle.maker.specs.declared.MakeReply.{MakeReply}

@@ -18,7 +18,7 @@ use Rattle.blocks.specs.FileLaws.{length-bytes}
 use Rattle.table.specs.Reading.{Table, good}
 use Rattle.table.specs.Read.{reading}
 use Rattle.table.specs.TableBytes.{read-back}
-use Rattle.live.specs.Growing.{most-live}
+use Rattle.places.specs.Places.{most-live}
 use Rattle.state.specs.Lent.{lent}
 use Rattle.maker.specs.Making.{size-of, Answered, too-many, impossible, too-long, done, Made, bad-length, bad-job, no-room, answered}
 use Rattle.maker.specs.declared.MakeReply.{MakeReply}

@@ -10,8 +10,7 @@ use Rattle.plant.specs.Plant.{Live}
 use Rattle.plant.specs.Rule.{Rule, Admissible}
 use Rattle.plant.specs.Number.{Number}
 use Rattle.sheet.specs.Model.{Good, plant}
-use Rattle.ascending.specs.Ascending.{work-words}
-use Rattle.live.specs.Growing.{most-live}
+use Rattle.places.specs.Places.{most-live, work-words}
 use Rattle.state.specs.Lent.{lent}
 use Rattle.maker.specs.Making.{Sheet-length, Made}
 use Rattle.maker.specs.declared.MakeReply.{MakeReply}

@@ -21,7 +21,7 @@ use blocks::sizes::SLOT;
 use blocks::sizes::SLOTS;
 
 // The bytes before the slots: letters, jobs, slots used, block number, number of blocks.
-fn header_of(n: u8, used: u8, k: u16, total: u16) -> [u8; HEADER]
+pub fn header_of(n: u8, used: u8, k: u16, total: u16) -> [u8; HEADER]
     ensures { λ r. ⌜ r ≡ header n used k total ⌝ }
 {
     [
@@ -57,7 +57,7 @@ fn job_slot(job: [u16; 4]) -> [u8; SLOT]
 }
 
 // A row's slot: its word, starts and tick code, and two zeros. A mark's two low bytes are the starts and the tick code.
-fn row_slot(word: u32, mark: u32) -> [u8; SLOT]
+pub fn row_slot(word: u32, mark: u32) -> [u8; SLOT]
     ensures { λ r. ⌜ r ≡ row-slot (row-of word mark) ⌝ }
 {
     let w = bytes32(word);
@@ -66,7 +66,7 @@ fn row_slot(word: u32, mark: u32) -> [u8; SLOT]
 }
 
 // Ends a block whose header and slots stand up to a place: zeros behind them, and the check of all that.
-fn seal(part: &mut [u8], at: usize)
+pub fn seal(part: &mut [u8], at: usize)
     requires { ⌜ (length (now part) ≡ block-bytes) × (at ≤ body-bytes) ⌝ }
     ensures { λ _. ⌜ now (part .exit) ≡ sealed (take at (now (part .entry))) ⌝ }
 {
@@ -120,7 +120,7 @@ pub fn write_rows(
 }
 
 // The slots that so many rows left fill in one block: all of them, where there are that many.
-fn used_by(left: usize) -> u8
+pub fn used_by(left: usize) -> u8
     ensures { λ r. ⌜ (r ≡ min block-slots left) × (r ≤ block-slots) ⌝ }
 {
     if left < SLOTS {
@@ -130,7 +130,7 @@ fn used_by(left: usize) -> u8
 }
 
 // The blocks of a file of so many rows: block 0, and one for each 62 rows or fewer.
-fn blocks_of(count: usize) -> usize
+pub fn blocks_of(count: usize) -> usize
     requires { ⌜ count ≤ most-rows ⌝ }
     ensures { λ r. ⌜ r ≡ blocks-of count ⌝ }
 {

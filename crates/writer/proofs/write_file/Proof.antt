@@ -103,7 +103,7 @@ loop-again c =
         (
           same-len-mid (block-bytes * l .b) (block-bytes * l .b + block-bytes - block-bytes * l .b) (l .out) (w .last .0) (w .kept .0) ∙ l .inv .1 .1 .0,
           λ σ old m q. block-more t σ R (omega arith) old (l .out) (w .last .0) _ (l .b) (l .inv .1 .1 .1 σ old m q)
-              (rows-block (a .n) t (l .b) (a .count) (u .result) (a .words .now) (a .marks .now) σ (w .last .0) (omega arith) m (u .ensures .0) (w .ensures)) (rw e refl),
+              (rows-block (a .n) t (l .b) (a .count) (u .result) (entry-of (a .words .now) (a .marks .now)) σ (w .last .0) (omega arith) m (u .ensures .0) (w .ensures)) (rw e refl),
         ),
       ),
     )

@@ -1,0 +1,172 @@
+-- `write_file`: before each turn the blocks so far stand in front, and the rest is as it was. Assumes nothing.
+use Prim.Native.Nat.{ℕ, _+_, _-_, _*_, _≤_}
+use native.Mathlib.Omega.{arith}
+use mathlib.Core.Path.{_≡_, refl, _∙_}
+use mathlib.Core.List.{List, _++_}
+use lib.ListN.{length, drop, getD}
+use borrow.Rule.Slice.PartMut.{same-len-mid}
+use Rattle.sheet.specs.Model.{Sheet}
+use Rattle.sheet.specs.Table.{Entry}
+use Rattle.sheet.specs.Arrays.{sheet-of}
+use Rattle.sheet.specs.ArraysLaws.{length-sheet}
+use Rattle.blocks.specs.Sizes.{block-bytes, block-slots}
+use Rattle.blocks.specs.File.{written, blocks-of}
+use Rattle.blocks.specs.Held.{tab}
+use Rattle.blocks.specs.FileLaws.{block-more, block-first, jobs-block, rows-block}
+use Rattle.filing.specs.Filing.{entry-at}
+use Rattle.filing.specs.FilingLaws.{lent-front, all-filed}
+use borrow.Author.Needs.{needs}
+use Rattle.filing.proofs.write_file.Statement.{statement}
+use Rattle.filing.proofs.write_file.Tie as tie
+
+-- the row of an order, and the first of them
+abbrev row : List ℕ → List ℕ → ℕ → Entry
+row work order i = entry-at work (getD order i 0)
+
+abbrev rows : List ℕ → List ℕ → ℕ → List Entry
+rows work order count = tab count (row work order)
+
+abbrev Inv-loop : tie.InvT-loop
+Inv-loop out₀ n work order count total start stop b₀ out b =
+    (1 ≤ b) × ((b ≤ total) × ((length out ≡ length out₀) × ((σ : Sheet) (old : List ℕ) → length σ ≡ n
+    → out₀ ≡ written total σ (rows work order count) 1 ++ drop block-bytes old → out ≡ written total σ (rows work order count) b ++ drop (block-bytes * b) old)))
+
+abbrev μ-loop : tie.MeasureT-loop
+μ-loop out₀ n work order count total start stop b₀ out b = total - b
+
+blocks-of-requires : tie.Need-blocks-of-requires Inv-loop μ-loop
+blocks-of-requires c κs = search needs
+
+sub-write-jobs : tie.Need-sub-write-jobs Inv-loop μ-loop
+sub-write-jobs c = search needs
+
+part-write-jobs-start : tie.Need-part-write-jobs-start Inv-loop μ-loop
+part-write-jobs-start c = search needs
+
+part-write-jobs-end : tie.Need-part-write-jobs-end Inv-loop μ-loop
+part-write-jobs-end c = search needs
+
+cast-write-jobs : tie.Need-cast-write-jobs Inv-loop μ-loop
+cast-write-jobs c = search needs
+
+write-jobs-requires : tie.Need-write-jobs-requires Inv-loop μ-loop
+write-jobs-requires c κs = search needs
+
+loop-holds : tie.Need-loop-holds Inv-loop μ-loop
+loop-holds c = (search needs, (search needs, (refl, λ σ old l e. e)))
+
+sub-from : tie.Need-sub-from Inv-loop μ-loop
+sub-from c = search needs
+
+mul-from : tie.Need-mul-from Inv-loop μ-loop
+mul-from c = search needs
+
+sub-used-by : tie.Need-sub-used-by Inv-loop μ-loop
+sub-used-by c = search needs
+
+used-by-requires : tie.Need-used-by-requires Inv-loop μ-loop
+used-by-requires c κs = search needs
+
+mul-at : tie.Need-mul-at Inv-loop μ-loop
+mul-at c = search needs
+
+add-end : tie.Need-add-end Inv-loop μ-loop
+add-end c = search needs
+
+sub-write-rows : tie.Need-sub-write-rows Inv-loop μ-loop
+sub-write-rows c = search needs
+
+part-write-rows-start : tie.Need-part-write-rows-start Inv-loop μ-loop
+part-write-rows-start c = search needs
+
+part-write-rows-end : tie.Need-part-write-rows-end Inv-loop μ-loop
+part-write-rows-end c = search needs
+
+cast-write-rows : tie.Need-cast-write-rows Inv-loop μ-loop
+cast-write-rows c = search needs
+
+cast-write-rows-2 : tie.Need-cast-write-rows-2 Inv-loop μ-loop
+cast-write-rows-2 c = search needs
+
+write-rows-requires : tie.Need-write-rows-requires Inv-loop μ-loop
+write-rows-requires c κs =
+    let s = c .before .before .before .before .before .before .before .before .before .before .before in
+    let a = s .args in
+    let l = c .before .before .before .loop in
+    let u = c .before .used-by in
+    (search needs, lent-front (block-slots * (l .b - 1) + u .result) (a .count) (a .work .now) (a .order .now) (omega (arith, u .ensures .0)) (s .pre .0 .1))
+
+add-b : tie.Need-add-b Inv-loop μ-loop
+add-b c = search needs
+
+loop-less : tie.Need-loop-less Inv-loop μ-loop
+loop-less c = search needs
+
+loop-again : tie.Need-loop-again Inv-loop μ-loop
+loop-again c =
+    let a = c .before .before .before .before .before .before .before .before .before .before .before .before .before .before .args in
+    let l = c .before .before .before .before .before .before .loop in
+    let w = c .before .before .write-rows in
+    let u = c .before .before .before .before .used-by in
+    let t = c .before .before .before .before .before .before .before .before .before .before .before .blocks-of .result in
+    let f = row (a .work .now) (a .order .now) in
+    let e : (block-bytes * l .b + block-bytes) - block-bytes * l .b ≡ block-bytes = omega arith in (
+      search needs,
+      (
+        search needs,
+        (
+          same-len-mid (block-bytes * l .b) (block-bytes * l .b + block-bytes - block-bytes * l .b) (l .out) (w .last .0) (w .kept .0) ∙ l .inv .1 .1 .0,
+          λ σ old m q. block-more t σ (tab (a .count) f) (omega arith) old (l .out) (w .last .0) _ (l .b) (l .inv .1 .1 .1 σ old m q)
+              (rows-block (a .n) t (l .b) (a .count) (u .result) f σ (w .last .0) (omega arith) m (u .ensures .0) (w .ensures)) (rw e refl),
+        ),
+      ),
+    )
+
+same-length : tie.Need-same-length Inv-loop μ-loop
+same-length c = search needs
+
+returns : tie.Need-returns Inv-loop μ-loop
+returns c =
+    let s = c .before .before .before .before .before .before .before .before .before in
+    let a = s .args in
+    let l = c .before .loop in
+    let w = c .before .before .before .before .write-jobs in
+    let t = c .before .before .before .before .before .before .blocks-of in
+    let σ = sheet-of (a .jobs) (a .n) in
+    let R = rows (a .work .now) (a .order .now) (a .count) in
+    let n = length-sheet (a .jobs) (a .n) (search needs) in
+    let e : l .b ≡ blocks-of (a .count) = omega arith in
+    let f = block-first (t .result) σ R (omega arith) (a .out .now) (w .last .0) _ (jobs-block (a .jobs) (a .n) (search needs) (search needs) (t .result) R (w .last .0) (w .ensures)) refl in
+    all-filed (a .work .now) (a .order .now) (a .count) σ (l .out) (drop (block-bytes * blocks-of (a .count)) (a .out .now)) (omega (arith, s .pre .0 .1 .room, s .pre .0 .1 .halves))
+    (rw (e, t .ensures) at (l .inv .1 .1 .1 σ (a .out .now) n f))
+
+pub write-file-spec : {M : Type 1} → statement M
+write-file-spec =
+    tie.close
+    (tie.spec
+    Inv-loop
+    μ-loop
+    blocks-of-requires
+    sub-write-jobs
+    part-write-jobs-start
+    part-write-jobs-end
+    cast-write-jobs
+    write-jobs-requires
+    loop-holds
+    sub-from
+    mul-from
+    sub-used-by
+    used-by-requires
+    mul-at
+    add-end
+    sub-write-rows
+    part-write-rows-start
+    part-write-rows-end
+    cast-write-rows
+    cast-write-rows-2
+    write-rows-requires
+    add-b
+    loop-less
+    loop-again
+    same-length
+    returns)
