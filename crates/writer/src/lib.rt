@@ -1,12 +1,12 @@
-// Blocks, and a file, written from the front on: what stands before a place is final, what stands after it is as it was.
+// The parts of a file: headers, slots, the block of jobs, the end of a block, and how many blocks and bytes there are.
 ghost use mathlib.Core.Path.{_≡_};
-ghost use mathlib.Core.List.{_++_, map};
+ghost use mathlib.Core.List.{map};
 ghost use Prim.Native.Nat.{_≤_, _+_, _*_, min};
-ghost use lib.ListN.{length, take, drop};
+ghost use lib.ListN.{length, take};
 ghost use Rattle.blocks.specs.Sizes.{block-bytes, body-bytes, block-slots, most-jobs, most-rows};
-ghost use Rattle.blocks.specs.File.{header, sealed, block-of, job-slot, row-slot, blocks-of, bytes-of};
+ghost use Rattle.blocks.specs.File.{header, sealed, block-of, job-slot, row-slot, blocks-of};
 ghost use Rattle.sheet.specs.Arrays.{job-of, sheet-of};
-ghost use Rattle.blocks.specs.Held.{row-of, entries-from, entries-of};
+ghost use Rattle.blocks.specs.Held.{row-of};
 use blocks::check;
 use blocks::letters::LETTERS;
 use blocks::numbers::bytes32;
@@ -92,33 +92,6 @@ pub fn write_jobs(part: &mut [u8], n: u8, total: u16, jobs: [[u16; 4]; 8])
     seal(part, HEADER + SLOT * many);
 }
 
-// Writes block k of a file, with so many rows from a place on: as block 0, with a slot a row.
-pub fn write_rows(
-    part: &mut [u8],
-    n: u8,
-    k: u16,
-    total: u16,
-    words: &[u32],
-    marks: &[u32],
-    from: usize,
-    used: u8,
-)
-    requires { ⌜ (length (now part) ≡ block-bytes) × (used ≤ block-slots) ⌝ }
-    requires { ⌜ (from + used ≤ length (now words)) × (from + used ≤ length (now marks)) ⌝ }
-    ensures { λ _. ⌜ now (part .exit) ≡ block-of n k total (map row-slot (entries-from (now (words .entry)) (now (marks .entry)) from used)) ⌝ }
-{
-    let head = header_of(n, used, k, total);
-    put(part, 0, &head);
-    let rows = used as usize;
-    let mut s: usize = 0;
-    while s < rows {
-        let slot = row_slot(words[from + s], marks[from + s]);
-        put(part, HEADER + SLOT * s, &slot);
-        s += 1;
-    }
-    seal(part, HEADER + SLOT * rows);
-}
-
 // The slots that so many rows left fill in one block: all of them, where there are that many.
 pub fn used_by(left: usize) -> u8
     ensures { λ r. ⌜ (r ≡ min block-slots left) × (r ≤ block-slots) ⌝ }
@@ -143,41 +116,4 @@ pub fn bytes_needed(count: usize) -> usize
     ensures { λ r. ⌜ r ≡ block-bytes * blocks-of count ⌝ }
 {
     BLOCK * blocks_of(count)
-}
-
-// Writes the whole file of a sheet and the first rows: block 0, then block after block of rows. What stands behind the file is left.
-pub fn write_file(
-    out: &mut [u8],
-    n: u8,
-    jobs: [[u16; 4]; 8],
-    words: &[u32],
-    marks: &[u32],
-    count: usize,
-)
-    requires { ⌜ (n ≤ most-jobs) × ((count ≤ most-rows) × ((count ≤ length (now words)) × (count ≤ length (now marks)))) ⌝ }
-    requires { ⌜ block-bytes * blocks-of count ≤ length (now out) ⌝ }
-    ensures { λ _. ⌜ now (out .exit) ≡ bytes-of (sheet-of jobs n) (entries-of (now (words .entry)) (now (marks .entry)) count) ++ drop (block-bytes * blocks-of count) (now (out .entry)) ⌝ }
-{
-    let total = blocks_of(count);
-    let start: usize = 0;
-    let stop: usize = BLOCK;
-    write_jobs(&mut out[start..stop], n, total as u16, jobs);
-    let mut b: usize = 1;
-    while b < total {
-        let from = SLOTS * (b - 1);
-        let used = used_by(count - from);
-        let at = BLOCK * b;
-        let end = at + BLOCK;
-        write_rows(
-            &mut out[at..end],
-            n,
-            b as u16,
-            total as u16,
-            words,
-            marks,
-            from,
-            used,
-        );
-        b += 1;
-    }
 }
