@@ -1,6 +1,6 @@
 /* How much stack each call takes. The call runs on a stack of its own that was filled with a pattern; afterwards the lowest
  * byte that has changed is looked for. No call may take more than the header says. Prints a line for each call and closes
- * with 'N passed, M failed'. Linked with memcpy and memset bound at once (-z now): the dynamic linker is not measured. */
+ * with 'N passed, M failed'. Linked with memcpy and its kin bound at once (-z now): the dynamic linker is not measured. */
 #define _XOPEN_SOURCE 700
 #include "smirrado.h"
 #include "sheets.h"

@@ -5,13 +5,13 @@
 //! program; `text` does the same for the printing program, named by the command that runs it. `believed`
 //! holds the lists of docs/PROMISES.md to the definitions that the contracts rest on. `touch`
 //! touches memory that was not lent. `bench` measures the calls and, where it is named, the printing
-//! program. `print` is the second program's printing program, or the tuned one's. `once` makes one
-//! table, for `phases`.
+//! program. `print` is the second program's printing program, or the tuned one's.
 
 mod believed;
 mod bench;
 mod bench_print;
 mod buffers;
+mod classes;
 mod clauses;
 mod compare;
 mod damage;
@@ -21,6 +21,7 @@ mod found;
 mod guarded;
 mod library;
 mod limits;
+mod makers;
 mod played;
 mod printer;
 mod race;
@@ -45,8 +46,7 @@ const USAGE: &str = "usage: tests self
        tests believed [--names]
        tests touch
        tests bench [PROGRAM]
-       tests print [tuned]
-       tests once PLACE BYTES";
+       tests print [tuned]";
 
 fn main() -> ExitCode {
     let arguments: Vec<String> = env::args().skip(1).collect();
@@ -75,10 +75,6 @@ fn main() -> ExitCode {
         Some((&"print", rest @ ([] | ["tuned"]))) => match printer::print(!rest.is_empty()) {
             Ok(()) => return ExitCode::SUCCESS,
             Err(_) => return ExitCode::FAILURE,
-        },
-        Some((&"once", [place, bytes])) => match (place.parse(), bytes.parse()) {
-            (Ok(place), Ok(bytes)) if bench::once(place, bytes) => return ExitCode::SUCCESS,
-            _ => return usage(),
         },
         _ => return usage(),
     }
