@@ -41,7 +41,7 @@
  * return address among them: few enough for an interrupt's stack, but for make and engine, which
  * are to be called where there is room. tests/c/stack.c measures this on a painted stack, over
  * good and bad sheets, files and events, and the tests fail where a call takes more. Where memcpy
- * and memset are bound lazily, the first call of them runs the dynamic linker on that stack too:
+ * and its kin are bound lazily, the first call of each runs the dynamic linker on that stack too:
  * that is not counted here. */
 #ifndef SMIRRADO_H
 #define SMIRRADO_H
