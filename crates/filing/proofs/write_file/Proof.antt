@@ -142,31 +142,6 @@ returns c =
 
 pub write-file-spec : {M : Type 1} → statement M
 write-file-spec =
-    tie.close
-    (tie.spec
-    Inv-loop
-    μ-loop
-    blocks-of-requires
-    sub-write-jobs
-    part-write-jobs-start
-    part-write-jobs-end
-    cast-write-jobs
-    write-jobs-requires
-    loop-holds
-    sub-from
-    mul-from
-    sub-used-by
-    used-by-requires
-    mul-at
-    add-end
-    sub-write-rows
-    part-write-rows-start
-    part-write-rows-end
-    cast-write-rows
-    cast-write-rows-2
-    write-rows-requires
-    add-b
-    loop-less
-    loop-again
-    same-length
-    returns)
+    tie.close (tie.spec Inv-loop μ-loop blocks-of-requires sub-write-jobs part-write-jobs-start part-write-jobs-end cast-write-jobs write-jobs-requires
+    loop-holds sub-from mul-from sub-used-by used-by-requires mul-at add-end sub-write-rows part-write-rows-start part-write-rows-end cast-write-rows
+    cast-write-rows-2 write-rows-requires add-b loop-less loop-again same-length returns)

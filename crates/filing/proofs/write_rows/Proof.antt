@@ -109,26 +109,5 @@ returns c =
 
 pub write-rows-spec : {M : Type 1} → statement M
 write-rows-spec =
-    tie.close
-    (tie.spec
-    Inv-loop
-    μ-loop
-    header-of-requires
-    slice-aggregate-put
-    put-requires
-    loop-holds
-    add-place-at
-    place-at-requires
-    slot-at-requires
-    mul-put
-    add-put
-    slice-aggregate-put-2
-    put-requires-2
-    add-s
-    loop-less
-    loop-again
-    mul-seal
-    add-seal
-    seal-requires
-    same-length
-    returns)
+    tie.close (tie.spec Inv-loop μ-loop header-of-requires slice-aggregate-put put-requires loop-holds add-place-at place-at-requires slot-at-requires
+    mul-put add-put slice-aggregate-put-2 put-requires-2 add-s loop-less loop-again mul-seal add-seal seal-requires same-length returns)

@@ -40,14 +40,4 @@ returns c = let l = c .before .loop in let e : l .k ≡ c .before .before .befor
 
 pub put-jobs-spec : {M : Type 1} → statement M
 put-jobs-spec =
-    tie.close
-    (tie.spec
-    Inv-loop
-    μ-loop
-    loop-holds
-    add-k
-    put-job-requires
-    loop-less
-    loop-again
-    same-length
-    returns)
+    tie.close (tie.spec Inv-loop μ-loop loop-holds add-k put-job-requires loop-less loop-again same-length returns)

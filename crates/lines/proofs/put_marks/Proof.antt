@@ -40,13 +40,4 @@ returns c =
 
 pub put-marks-spec : {M : Type 1} → statement M
 put-marks-spec =
-    tie.close
-    (tie.spec
-    put-starts-requires
-    slice-aggregate-put
-    put-requires
-    put-tick-requires
-    slice-aggregate-put-2
-    put-requires-2
-    same-length
-    returns)
+    tie.close (tie.spec put-starts-requires slice-aggregate-put put-requires put-tick-requires slice-aggregate-put-2 put-requires-2 same-length returns)

@@ -39,13 +39,4 @@ returns c =
 
 pub put-pair-spec : {M : Type 1} → statement M
 put-pair-spec =
-    tie.close
-    (tie.spec
-    put-requires
-    put-number-requires
-    put-requires-2
-    put-number-requires-2
-    slice-aggregate-put
-    put-requires-3
-    same-length
-    returns)
+    tie.close (tie.spec put-requires put-number-requires put-requires-2 put-number-requires-2 slice-aggregate-put put-requires-3 same-length returns)

@@ -24,10 +24,4 @@ returns c = c .before .before .put-pair .ensures
 
 pub put-refusal-spec : {M : Type 1} → statement M
 put-refusal-spec =
-    tie.close
-    (tie.spec
-    slice-aggregate-put-pair
-    slice-aggregate-put-pair-2
-    put-pair-requires
-    same-length
-    returns)
+    tie.close (tie.spec slice-aggregate-put-pair slice-aggregate-put-pair-2 put-pair-requires same-length returns)

@@ -36,12 +36,4 @@ returns-2 c =
 
 pub put-starts-spec : {M : Type 1} → statement M
 put-starts-spec =
-    tie.close
-    (tie.spec
-    put-jobs-requires
-    slice-aggregate-put
-    put-requires
-    same-length
-    returns
-    same-length-2
-    returns-2)
+    tie.close (tie.spec put-jobs-requires slice-aggregate-put put-requires same-length returns same-length-2 returns-2)

@@ -94,19 +94,5 @@ returns c =
 
 pub put-state-spec : {M : Type 1} → statement M
 put-state-spec =
-    tie.close
-    (tie.spec
-    state-of-requires
-    cast-put-number
-    put-number-requires
-    slice-aggregate-put
-    put-requires
-    cast-put-number-2
-    put-number-requires-2
-    slice-aggregate-put-2
-    put-requires-2
-    put-statuses-requires
-    slice-aggregate-put-3
-    put-requires-3
-    same-length
-    returns)
+    tie.close (tie.spec state-of-requires cast-put-number put-number-requires slice-aggregate-put put-requires cast-put-number-2 put-number-requires-2
+    slice-aggregate-put-2 put-requires-2 put-statuses-requires slice-aggregate-put-3 put-requires-3 same-length returns)

@@ -49,15 +49,4 @@ returns c = let l = c .before .loop in let e : l .i ≡ c .before .before .befor
 
 pub put-statuses-spec : {M : Type 1} → statement M
 put-statuses-spec =
-    tie.close
-    (tie.spec
-    Inv-loop
-    μ-loop
-    loop-holds
-    array-read-put-digit
-    put-digit-requires
-    add-i
-    loop-less
-    loop-again
-    same-length
-    returns)
+    tie.close (tie.spec Inv-loop μ-loop loop-holds array-read-put-digit put-digit-requires add-i loop-less loop-again same-length returns)

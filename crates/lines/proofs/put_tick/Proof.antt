@@ -45,17 +45,5 @@ returns-3 c =
 
 pub put-tick-spec : {M : Type 1} → statement M
 put-tick-spec =
-    tie.close
-    (tie.spec
-    slice-aggregate-put
-    put-requires
-    slice-aggregate-put-2
-    put-requires-2
-    slice-aggregate-put-3
-    put-requires-3
-    same-length
-    returns
-    same-length-2
-    returns-2
-    same-length-3
-    returns-3)
+    tie.close (tie.spec slice-aggregate-put put-requires slice-aggregate-put-2 put-requires-2 slice-aggregate-put-3 put-requires-3 same-length returns
+    same-length-2 returns-2 same-length-3 returns-3)

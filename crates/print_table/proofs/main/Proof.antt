@@ -38,15 +38,5 @@ returns c = search needs
 
 pub main-spec : {M : Type 1} → statement M
 main-spec =
-    tie.close
-    (tie.spec
-    slice-aggregate-read-text
-    read-text-requires
-    slice-aggregate-print
-    array-share-prefix-text
-    slice-aggregate-print-2
-    print-requires
-    array-share-prefix-out
-    slice-aggregate-write-all
-    write-all-requires
-    returns)
+    tie.close (tie.spec slice-aggregate-read-text read-text-requires slice-aggregate-print array-share-prefix-text slice-aggregate-print-2 print-requires
+    array-share-prefix-out slice-aggregate-write-all write-all-requires returns)

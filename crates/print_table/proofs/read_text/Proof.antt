@@ -81,27 +81,6 @@ returns-3 c = counted _ _ (omega arith)
 
 pub read-text-spec : {M : Type 1} → statement M
 read-text-spec =
-    tie.close
-    (tie.spec
-    Inv-loop
-    μ-loop
-    loop-holds
-    sub-read
-    part-read-start
-    part-read-end
-    read-requires
-    slice-aggregate-write-all
-    write-all-requires
-    same-length
-    returns
-    sub-count
-    part-count-start
-    part-count-end
-    count-requires
-    add-end
-    loop-less
-    loop-again
-    same-length-2
-    returns-2
-    same-length-3
+    tie.close (tie.spec Inv-loop μ-loop loop-holds sub-read part-read-start part-read-end read-requires slice-aggregate-write-all write-all-requires
+    same-length returns sub-count part-count-start part-count-end count-requires add-end loop-less loop-again same-length-2 returns-2 same-length-3
     returns-3)

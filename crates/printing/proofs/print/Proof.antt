@@ -54,14 +54,5 @@ returns-2 c =
 
 pub print-spec : {M : Type 1} → statement M
 print-spec =
-    tie.close
-    (tie.spec
-    parse-requires
-    put-refusal-requires
-    same-length
-    returns
-    array-share-prefix-numbers
-    slice-aggregate-put-sheet
-    put-sheet-requires
-    same-length-2
-    returns-2)
+    tie.close (tie.spec parse-requires put-refusal-requires same-length returns array-share-prefix-numbers slice-aggregate-put-sheet put-sheet-requires
+    same-length-2 returns-2)

@@ -62,17 +62,5 @@ returns-2 c =
 
 pub put-sheet-spec : {M : Type 1} → statement M
 put-sheet-spec =
-    tie.close
-    (tie.spec
-    slice-aggregate-make
-    slice-aggregate-make-2
-    make-requires
-    put-refusal-requires
-    same-length
-    returns
-    cast-length
-    array-share-prefix-file
-    slice-aggregate-put-listing
-    put-listing-requires
-    same-length-2
-    returns-2)
+    tie.close (tie.spec slice-aggregate-make slice-aggregate-make-2 make-requires put-refusal-requires same-length returns cast-length
+    array-share-prefix-file slice-aggregate-put-listing put-listing-requires same-length-2 returns-2)

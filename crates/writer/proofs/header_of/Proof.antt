@@ -26,12 +26,4 @@ returns c = cc
 
 pub header-of-spec : {M : Type 1} → statement M
 header-of-spec =
-    tie.close
-    (tie.spec
-    array-read-t8
-    array-read-t12
-    low-requires
-    high-requires
-    low-requires-2
-    high-requires-2
-    returns)
+    tie.close (tie.spec array-read-t8 array-read-t12 low-requires high-requires low-requires-2 high-requires-2 returns)

@@ -44,18 +44,5 @@ returns c = cc
 
 pub job-slot-spec : {M : Type 1} → statement M
 job-slot-spec =
-    tie.close
-    (tie.spec
-    array-read-a
-    array-read-b
-    array-read-w
-    array-read-d
-    low-requires
-    high-requires
-    low-requires-2
-    high-requires-2
-    low-requires-3
-    high-requires-3
-    low-requires-4
-    high-requires-4
-    returns)
+    tie.close (tie.spec array-read-a array-read-b array-read-w array-read-d low-requires high-requires low-requires-2 high-requires-2 low-requires-3
+    high-requires-3 low-requires-4 high-requires-4 returns)

@@ -33,14 +33,5 @@ returns c = rw (c .before .bytes32 .ensures, c .bytes322 .ensures) refl
 
 pub row-slot-spec : {M : Type 1} → statement M
 row-slot-spec =
-    tie.close
-    (tie.spec
-    bytes32-requires
-    bytes32-requires-2
-    array-read-t8
-    array-read-t11
-    array-read-t14
-    array-read-t17
-    array-read-t20
-    array-read-t23
+    tie.close (tie.spec bytes32-requires bytes32-requires-2 array-read-t8 array-read-t11 array-read-t14 array-read-t17 array-read-t20 array-read-t23
     returns)

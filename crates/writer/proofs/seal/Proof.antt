@@ -33,12 +33,4 @@ returns c =
 
 pub seal-spec : {M : Type 1} → statement M
 seal-spec =
-    tie.close
-    (tie.spec
-    put-zeros-requires
-    check-of-requires
-    bytes32-requires
-    slice-aggregate-put
-    put-requires
-    same-length
-    returns)
+    tie.close (tie.spec put-zeros-requires check-of-requires bytes32-requires slice-aggregate-put put-requires same-length returns)

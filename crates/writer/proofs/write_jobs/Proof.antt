@@ -100,26 +100,5 @@ returns c =
 
 pub write-jobs-spec : {M : Type 1} → statement M
 write-jobs-spec =
-    tie.close
-    (tie.spec
-    Inv-loop
-    μ-loop
-    header-of-requires
-    slice-aggregate-put
-    put-requires
-    loop-holds
-    mul-job-slot
-    array-copy-out-job-slot
-    job-slot-requires
-    mul-put
-    add-put
-    slice-aggregate-put-2
-    put-requires-2
-    add-s
-    loop-less
-    loop-again
-    mul-seal
-    add-seal
-    seal-requires
-    same-length
-    returns)
+    tie.close (tie.spec Inv-loop μ-loop header-of-requires slice-aggregate-put put-requires loop-holds mul-job-slot array-copy-out-job-slot
+    job-slot-requires mul-put add-put slice-aggregate-put-2 put-requires-2 add-s loop-less loop-again mul-seal add-seal seal-requires same-length returns)

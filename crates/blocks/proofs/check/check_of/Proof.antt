@@ -65,16 +65,4 @@ returns c =
 
 pub check-of-spec : {M : Type 1} → statement M
 check-of-spec =
-    tie.close
-    (tie.spec
-    Inv-loop
-    μ-loop
-    loop-holds
-    sub-p
-    shared-slice-read-wide32
-    wide32-requires
-    add-sum
-    add-sums
-    loop-less
-    loop-again
-    returns)
+    tie.close (tie.spec Inv-loop μ-loop loop-holds sub-p shared-slice-read-wide32 wide32-requires add-sum add-sums loop-less loop-again returns)

@@ -48,14 +48,4 @@ returns c =
 
 pub put-zeros-spec : {M : Type 1} → statement M
 put-zeros-spec =
-    tie.close
-    (tie.spec
-    Inv-loop
-    μ-loop
-    loop-holds
-    slice-write-out
-    add-p
-    loop-less
-    loop-again
-    same-length
-    returns)
+    tie.close (tie.spec Inv-loop μ-loop loop-holds slice-write-out add-p loop-less loop-again same-length returns)

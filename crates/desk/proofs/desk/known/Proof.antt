@@ -38,14 +38,4 @@ returns-2 c = tell-yes (all-known (c .before .before .before .args .desk .status
 
 pub known-spec : {M : Type 1} → statement M
 known-spec =
-    tie.close
-    (tie.spec
-    Inv-loop
-    μ-loop
-    loop-holds
-    array-read-if1
-    returns
-    add-i
-    loop-less
-    loop-again
-    returns-2)
+    tie.close (tie.spec Inv-loop μ-loop loop-holds array-read-if1 returns add-i loop-less loop-again returns-2)

@@ -42,16 +42,4 @@ returns-5 c = search needs
 
 pub allowed-spec : {M : Type 1} → statement M
 allowed-spec =
-    tie.close
-    (tie.spec
-    enum-told
-    enum-told-2
-    enum-known-e
-    has-requires
-    enum-told-3
-    enum-told-4
-    returns
-    returns-2
-    returns-3
-    returns-4
-    returns-5)
+    tie.close (tie.spec enum-told enum-told-2 enum-known-e has-requires enum-told-3 enum-told-4 returns returns-2 returns-3 returns-4 returns-5)

@@ -57,18 +57,5 @@ returns-5 c = λ σ s h. rw (c .enum-told2 .given .1) refl
 
 pub may-spec : {M : Type 1} → statement M
 may-spec =
-    tie.close
-    (tie.spec
-    enum-told
-    enum-known-e
-    has-requires
-    enum-known-e-2
-    has-requires-2
-    enum-known-e-3
-    has-requires-3
-    enum-told-2
-    returns
-    returns-2
-    returns-3
-    returns-4
-    returns-5)
+    tie.close (tie.spec enum-told enum-known-e has-requires enum-known-e-2 has-requires-2 enum-known-e-3 has-requires-3 enum-told-2 returns returns-2
+    returns-3 returns-4 returns-5)

@@ -45,18 +45,5 @@ returns-5 c = λ σ h. rw (c .enum-told2 .given .1) refl
 
 pub names-spec : {M : Type 1} → statement M
 names-spec =
-    tie.close
-    (tie.spec
-    enum-told
-    enum-known-e
-    one-of-requires
-    enum-known-e-2
-    one-of-requires-2
-    enum-known-e-3
-    one-of-requires-3
-    enum-told-2
-    returns
-    returns-2
-    returns-3
-    returns-4
-    returns-5)
+    tie.close (tie.spec enum-told enum-known-e one-of-requires enum-known-e-2 one-of-requires-2 enum-known-e-3 one-of-requires-3 enum-told-2 returns
+    returns-2 returns-3 returns-4 returns-5)

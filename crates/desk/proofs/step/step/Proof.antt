@@ -30,5 +30,4 @@ returns-2 c = search needs
 
 pub step-spec : {M : Type 1} → statement M
 step-spec =
-    tie.close
-    (tie.spec word-in-requires row-requires refused-requires returns step-in-requires returns-2)
+    tie.close (tie.spec word-in-requires row-requires refused-requires returns step-in-requires returns-2)

@@ -274,29 +274,6 @@ returns-6 c =
 
 pub step-in-spec : {M : Type 1} → statement M
 step-in-spec =
-    tie.close
-    (tie.spec
-    shared-slice-read-n
-    event-of-requires
-    names-requires
-    refused-requires
-    returns
-    known-requires
-    refused-requires-2
-    returns-2
-    refused-requires-3
-    returns-3
-    slice-aggregate-jobs-of
-    jobs-of-requires
-    state-in-requires
-    cast-look-at
-    look-at-requires
-    may-requires
-    refused-requires-4
-    returns-4
-    allowed-requires
-    refused-requires-5
-    returns-5
-    after-requires
-    desk-of-requires
-    returns-6)
+    tie.close (tie.spec shared-slice-read-n event-of-requires names-requires refused-requires returns known-requires refused-requires-2 returns-2
+    refused-requires-3 returns-3 slice-aggregate-jobs-of jobs-of-requires state-in-requires cast-look-at look-at-requires may-requires refused-requires-4
+    returns-4 allowed-requires refused-requires-5 returns-5 after-requires desk-of-requires returns-6)

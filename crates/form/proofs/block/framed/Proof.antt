@@ -77,24 +77,5 @@ returns-8 c =
 
 pub framed-spec : {M : Type 1} → statement M
 framed-spec =
-    tie.close
-    (tie.spec
-    letters-stand-requires
-    returns
-    shared-slice-read-if2
-    returns-2
-    shared-slice-read-if3
-    returns-3
-    read16-requires
-    returns-4
-    read16-requires-2
-    returns-5
-    size-requires
-    mul-zeros
-    add-zeros
-    zeros-requires
-    returns-6
-    read32-requires
-    check-of-requires
-    returns-7
-    returns-8)
+    tie.close (tie.spec letters-stand-requires returns shared-slice-read-if2 returns-2 shared-slice-read-if3 returns-3 read16-requires returns-4
+    read16-requires-2 returns-5 size-requires mul-zeros add-zeros zeros-requires returns-6 read32-requires check-of-requires returns-7 returns-8)

@@ -79,23 +79,5 @@ returns-5 c =
 
 pub jobs-good-spec : {M : Type 1} → statement M
 jobs-good-spec =
-    tie.close
-    (tie.spec
-    Inv-loop
-    μ-loop
-    shared-slice-read-n
-    returns
-    returns-2
-    framed-requires
-    returns-3
-    size-requires
-    loop-holds
-    mul-job-at
-    add-job-at
-    job-at-requires
-    job-good-requires
-    returns-4
-    add-s
-    loop-less
-    loop-again
-    returns-5)
+    tie.close (tie.spec Inv-loop μ-loop shared-slice-read-n returns returns-2 framed-requires returns-3 size-requires loop-holds mul-job-at add-job-at
+    job-at-requires job-good-requires returns-4 add-s loop-less loop-again returns-5)

@@ -74,27 +74,6 @@ returns c = cc
 
 pub jobs-of-spec : {M : Type 1} → statement M
 jobs-of-spec =
-    tie.close
-    (tie.spec
-    job-at-requires
-    add-job-at
-    job-at-requires-2
-    mul-job-at
-    add-job-at-2
-    job-at-requires-3
-    mul-job-at-2
-    add-job-at-3
-    job-at-requires-4
-    mul-job-at-3
-    add-job-at-4
-    job-at-requires-5
-    mul-job-at-4
-    add-job-at-5
-    job-at-requires-6
-    mul-job-at-5
-    add-job-at-6
-    job-at-requires-7
-    mul-job-at-6
-    add-job-at-7
-    job-at-requires-8
-    returns)
+    tie.close (tie.spec job-at-requires add-job-at job-at-requires-2 mul-job-at add-job-at-2 job-at-requires-3 mul-job-at-2 add-job-at-3 job-at-requires-4
+    mul-job-at-3 add-job-at-4 job-at-requires-5 mul-job-at-4 add-job-at-5 job-at-requires-6 mul-job-at-5 add-job-at-6 job-at-requires-7 mul-job-at-6
+    add-job-at-7 job-at-requires-8 returns)

@@ -60,15 +60,5 @@ returns-4 c =
 
 pub rows-follow-spec : {M : Type 1} → statement M
 rows-follow-spec =
-    tie.close
-    (tie.spec
-    shared-slice-read-used
-    count-fits-requires
-    returns
-    framed-requires
-    returns-2
-    read32-requires
-    follows-requires
-    returns-3
-    slots-good-requires
-    returns-4)
+    tie.close (tie.spec shared-slice-read-used count-fits-requires returns framed-requires returns-2 read32-requires follows-requires returns-3
+    slots-good-requires returns-4)

@@ -89,27 +89,6 @@ returns-6 c =
 
 pub slot-good-spec : {M : Type 1} → statement M
 slot-good-spec =
-    tie.close
-    (tie.spec
-    mul-at
-    add-at
-    add-if1
-    shared-slice-read-if1
-    returns
-    add-if2
-    shared-slice-read-if2
-    returns-2
-    read32-requires
-    add-row-good
-    shared-slice-read-row-good
-    add-row-good-2
-    shared-slice-read-row-good-2
-    row-good-requires
-    returns-3
-    returns-4
-    sub-read32
-    mul-read32
-    add-read32
-    read32-requires-2
-    returns-5
-    returns-6)
+    tie.close (tie.spec mul-at add-at add-if1 shared-slice-read-if1 returns add-if2 shared-slice-read-if2 returns-2 read32-requires add-row-good
+    shared-slice-read-row-good add-row-good-2 shared-slice-read-row-good-2 row-good-requires returns-3 returns-4 sub-read32 mul-read32 add-read32
+    read32-requires-2 returns-5 returns-6)

@@ -42,15 +42,4 @@ returns-2 c = tell-yes (λ j h. c .before .loop .inv .1 j (omega arith))
 
 pub slots-good-spec : {M : Type 1} → statement M
 slots-good-spec =
-    tie.close
-    (tie.spec
-    Inv-loop
-    μ-loop
-    size-requires
-    loop-holds
-    slot-good-requires
-    returns
-    add-s
-    loop-less
-    loop-again
-    returns-2)
+    tie.close (tie.spec Inv-loop μ-loop size-requires loop-holds slot-good-requires returns add-s loop-less loop-again returns-2)

@@ -38,14 +38,4 @@ returns-2 c = tell-yes (λ j h l. c .before .loop .inv .1 j h (omega arith))
 
 pub zeros-spec : {M : Type 1} → statement M
 zeros-spec =
-    tie.close
-    (tie.spec
-    Inv-loop
-    μ-loop
-    loop-holds
-    shared-slice-read-if1
-    returns
-    add-p
-    loop-less
-    loop-again
-    returns-2)
+    tie.close (tie.spec Inv-loop μ-loop loop-holds shared-slice-read-if1 returns add-p loop-less loop-again returns-2)

@@ -93,29 +93,6 @@ returns-5 c =
 
 pub job-fits-spec : {M : Type 1} → statement M
 job-fits-spec =
-    tie.close
-    (tie.spec
-    array-read-wide
-    wide-requires
-    cast-result
-    add-result
-    array-read-wide-2
-    wide-requires-2
-    add-result-2
-    returns
-    returns-2
-    returns-3
-    array-read-wide-3
-    wide-requires-3
-    add-result-3
-    returns-4
-    cast-ran
-    cast-result-2
-    add-result-4
-    array-read-wide-4
-    wide-requires-4
-    add-result-5
-    array-read-wide-5
-    wide-requires-5
-    add-result-6
-    returns-5)
+    tie.close (tie.spec array-read-wide wide-requires cast-result add-result array-read-wide-2 wide-requires-2 add-result-2 returns returns-2 returns-3
+    array-read-wide-3 wide-requires-3 add-result-3 returns-4 cast-ran cast-result-2 add-result-4 array-read-wide-4 wide-requires-4 add-result-5
+    array-read-wide-5 wide-requires-5 add-result-6 returns-5)

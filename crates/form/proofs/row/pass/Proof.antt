@@ -106,26 +106,5 @@ returns-3 c =
 
 pub pass-spec : {M : Type 1} → statement M
 pass-spec =
-    tie.close
-    (tie.spec
-    Inv-loop
-    μ-loop
-    now-of-requires
-    elapsed-of-requires
-    loop-holds
-    cast-job
-    mul-job
-    array-copy-out-job
-    add-status-in
-    status-in-requires
-    add-has
-    has-requires
-    job-fits-requires
-    returns
-    returns-2
-    pends-requires
-    spends-requires
-    add-k
-    loop-less
-    loop-again
-    returns-3)
+    tie.close (tie.spec Inv-loop μ-loop now-of-requires elapsed-of-requires loop-holds cast-job mul-job array-copy-out-job add-status-in
+    status-in-requires add-has has-requires job-fits-requires returns returns-2 pends-requires spends-requires add-k loop-less loop-again returns-3)

@@ -77,17 +77,5 @@ returns-5 c =
 
 pub row-good-spec : {M : Type 1} → statement M
 row-good-spec =
-    tie.close
-    (tie.spec
-    ends-requires
-    returns
-    all-done-requires
-    returns-2
-    pass-requires
-    enum-known-running
-    enum-told
-    returns-3
-    elapsed-of-requires
-    returns-4
-    marks-fit-requires
-    returns-5)
+    tie.close (tie.spec ends-requires returns all-done-requires returns-2 pass-requires enum-known-running enum-told returns-3 elapsed-of-requires
+    returns-4 marks-fit-requires returns-5)

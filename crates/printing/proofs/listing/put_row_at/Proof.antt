@@ -52,14 +52,5 @@ returns c =
 
 pub put-row-at-spec : {M : Type 1} → statement M
 put-row-at-spec =
-    tie.close
-    (tie.spec
-    place-of-requires
-    read32-requires
-    add-put-row
-    shared-slice-read-put-row
-    add-put-row-2
-    shared-slice-read-put-row-2
-    put-row-requires
-    same-length
-    returns)
+    tie.close (tie.spec place-of-requires read32-requires add-put-row shared-slice-read-put-row add-put-row-2 shared-slice-read-put-row-2 put-row-requires
+    same-length returns)

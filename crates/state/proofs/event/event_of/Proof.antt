@@ -34,5 +34,4 @@ returns-7 c = nothing-is _ (λ t. omega arith) (λ a b. omega arith) (λ a b. om
 
 pub event-of-spec : {M : Type 1} → statement M
 event-of-spec =
-    tie.close
-    (tie.spec sub-t4 sub-t5 returns returns-2 returns-3 returns-4 returns-5 returns-6 returns-7)
+    tie.close (tie.spec sub-t4 sub-t5 returns returns-2 returns-3 returns-4 returns-5 returns-6 returns-7)

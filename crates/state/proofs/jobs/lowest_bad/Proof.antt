@@ -53,17 +53,5 @@ returns-2 c = none-bad (c .before .before .args .t1) (c .before .before .args .n
 
 pub lowest-bad-spec : {M : Type 1} → statement M
 lowest-bad-spec =
-    tie.close
-    (tie.spec
-    Inv-loop
-    μ-loop
-    loop-holds
-    mul-job-good
-    array-copy-out-job-good
-    job-good-requires
-    add-result
-    returns
-    add-i
-    loop-less
-    loop-again
+    tie.close (tie.spec Inv-loop μ-loop loop-holds mul-job-good array-copy-out-job-good job-good-requires add-result returns add-i loop-less loop-again
     returns-2)

@@ -34,14 +34,5 @@ returns c = cc
 
 pub sheet-of-spec : {M : Type 1} → statement M
 sheet-of-spec =
-    tie.close
-    (tie.spec
-    job-from-requires
-    job-from-requires-2
-    job-from-requires-3
-    job-from-requires-4
-    job-from-requires-5
-    job-from-requires-6
-    job-from-requires-7
-    job-from-requires-8
-    returns)
+    tie.close (tie.spec job-from-requires job-from-requires-2 job-from-requires-3 job-from-requires-4 job-from-requires-5 job-from-requires-6
+    job-from-requires-7 job-from-requires-8 returns)

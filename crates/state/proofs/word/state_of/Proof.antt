@@ -50,16 +50,4 @@ returns c =
 
 pub state-of-spec : {M : Type 1} → statement M
 state-of-spec =
-    tie.close
-    (tie.spec
-    Inv-loop
-    μ-loop
-    loop-holds
-    cast-statuses
-    array-write-statuses
-    add-i
-    loop-less
-    loop-again
-    cast-t11
-    cast-t14
-    returns)
+    tie.close (tie.spec Inv-loop μ-loop loop-holds cast-statuses array-write-statuses add-i loop-less loop-again cast-t11 cast-t14 returns)

@@ -52,16 +52,4 @@ returns c =
 
 pub word-of-spec : {M : Type 1} → statement M
 word-of-spec =
-    tie.close
-    (tie.spec
-    Inv-loop
-    μ-loop
-    loop-holds
-    sub-i
-    array-read-word
-    cast-word
-    loop-less
-    loop-again
-    cast-result
-    cast-result-2
-    returns)
+    tie.close (tie.spec Inv-loop μ-loop loop-holds sub-i array-read-word cast-word loop-less loop-again cast-result cast-result-2 returns)

@@ -32,5 +32,4 @@ returns-4 c =
 
 pub opens-spec : {M : Type 1} → statement M
 opens-spec =
-    tie.close
-    (tie.spec returns returns-2 returns-3 slice-aggregate-first cast-jobs-good jobs-good-requires returns-4)
+    tie.close (tie.spec returns returns-2 returns-3 slice-aggregate-first cast-jobs-good jobs-good-requires returns-4)

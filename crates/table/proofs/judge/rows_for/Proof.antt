@@ -145,27 +145,5 @@ returns-3 c = judged c
 
 pub rows-for-spec : {M : Type 1} → statement M
 rows-for-spec =
-    tie.close
-    (tie.spec
-    Inv-loop
-    μ-loop
-    slice-aggregate-first
-    shared-slice-read-n
-    jobs-of-requires
-    loop-holds
-    add-loop
-    add-b
-    rows-good-requires
-    cast-t18
-    returns
-    rows-to-requires
-    sub-word-at
-    word-at-requires
-    cast-if2
-    cast-t21
-    returns-2
-    loop-less
-    loop-again
-    count-rows-requires
-    cast-all
-    returns-3)
+    tie.close (tie.spec Inv-loop μ-loop slice-aggregate-first shared-slice-read-n jobs-of-requires loop-holds add-loop add-b rows-good-requires cast-t18
+    returns rows-to-requires sub-word-at word-at-requires cast-if2 cast-t21 returns-2 loop-less loop-again count-rows-requires cast-all returns-3)

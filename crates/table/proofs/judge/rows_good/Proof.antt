@@ -59,21 +59,5 @@ returns c =
 
 pub rows-good-spec : {M : Type 1} → statement M
 rows-good-spec =
-    tie.close
-    (tie.spec
-    mul-at
-    add-end
-    sub-read32
-    mul-read32
-    sub-read32-2
-    mul-read32-2
-    add-read32
-    add-read32-2
-    read32-requires
-    sub-part
-    part-part-start
-    part-part-end
-    cast-rows-follow
-    cast-rows-follow-2
-    rows-follow-requires
-    returns)
+    tie.close (tie.spec mul-at add-end sub-read32 mul-read32 sub-read32-2 mul-read32-2 add-read32 add-read32-2 read32-requires sub-part part-part-start
+    part-part-end cast-rows-follow cast-rows-follow-2 rows-follow-requires returns)

@@ -63,13 +63,5 @@ returns-2 c =
 
 pub leeway-spec : {M : Type 1} → statement M
 leeway-spec =
-    tie.close
-    (tie.spec
-    read-for-requires
-    enum-known-judgement
-    refusal-requires
-    enum-known-judgement-2
-    shared-slice-read-leeway-in
-    leeway-in-requires
-    returns
-    returns-2)
+    tie.close (tie.spec read-for-requires enum-known-judgement refusal-requires enum-known-judgement-2 shared-slice-read-leeway-in leeway-in-requires
+    returns returns-2)

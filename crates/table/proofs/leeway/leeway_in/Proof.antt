@@ -153,29 +153,6 @@ returns-5 c =
 
 pub leeway-in-spec : {M : Type 1} → statement M
 leeway-in-spec =
-    tie.close
-    (tie.spec
-    refusal-requires
-    returns
-    refusal-requires-2
-    returns-2
-    find-requires
-    enum-told
-    enum-told-2
-    refusal-requires-3
-    returns-3
-    cast-status-in
-    status-in-requires
-    refusal-requires-4
-    returns-4
-    cast-at
-    mul-at
-    add-at
-    read16-requires
-    add-read16
-    read16-requires-2
-    add-read16-2
-    read16-requires-3
-    cast-left
-    left-requires
-    returns-5)
+    tie.close (tie.spec refusal-requires returns refusal-requires-2 returns-2 find-requires enum-told enum-told-2 refusal-requires-3 returns-3
+    cast-status-in status-in-requires refusal-requires-4 returns-4 cast-at mul-at add-at read16-requires add-read16 read16-requires-2 add-read16-2
+    read16-requires-3 cast-left left-requires returns-5)

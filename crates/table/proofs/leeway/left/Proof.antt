@@ -66,13 +66,4 @@ cast-result-4 c = search needs
 
 pub left-spec : {M : Type 1} → statement M
 left-spec =
-    tie.close
-    (tie.spec
-    cast-result
-    cast-result-2
-    add-result
-    cast-result-3
-    sub-result
-    cast-result-4
-    sub-result-2
-    returns)
+    tie.close (tie.spec cast-result cast-result-2 add-result cast-result-3 sub-result cast-result-4 sub-result-2 returns)

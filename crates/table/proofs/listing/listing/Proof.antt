@@ -63,13 +63,5 @@ returns-2 c =
 
 pub listing-spec : {M : Type 1} → statement M
 listing-spec =
-    tie.close
-    (tie.spec
-    read-for-requires
-    enum-known-judgement
-    unlisted-reply-requires
-    enum-known-judgement-2
-    shared-slice-read-listing-in
-    listing-in-requires
-    returns
-    returns-2)
+    tie.close (tie.spec read-for-requires enum-known-judgement unlisted-reply-requires enum-known-judgement-2 shared-slice-read-listing-in
+    listing-in-requires returns returns-2)

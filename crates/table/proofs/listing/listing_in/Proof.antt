@@ -48,14 +48,5 @@ returns-3 c =
 
 pub listing-in-spec : {M : Type 1} → statement M
 listing-in-spec =
-    tie.close
-    (tie.spec
-    unlisted-reply-requires
-    returns
-    unlisted-reply-requires-2
-    returns-2
-    cast-i
-    row-at-requires
-    numbers-of-requires
-    word-at-requires
+    tie.close (tie.spec unlisted-reply-requires returns unlisted-reply-requires-2 returns-2 cast-i row-at-requires numbers-of-requires word-at-requires
     returns-3)

@@ -58,17 +58,4 @@ returns c =
 
 pub numbers-of-spec : {M : Type 1} → statement M
 numbers-of-spec =
-    tie.close
-    (tie.spec
-    Inv-loop
-    μ-loop
-    loop-holds
-    mul-read16
-    add-read16
-    read16-requires
-    mul-out
-    array-write-out
-    add-i
-    loop-less
-    loop-again
-    returns)
+    tie.close (tie.spec Inv-loop μ-loop loop-holds mul-read16 add-read16 read16-requires mul-out array-write-out add-i loop-less loop-again returns)

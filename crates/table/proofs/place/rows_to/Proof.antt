@@ -31,5 +31,4 @@ returns c = omega (arith, c .size .ensures .0, at-block (c .before .before .befo
 
 pub rows-to-spec : {M : Type 1} → statement M
 rows-to-spec =
-    tie.close
-    (tie.spec sub-result mul-result mul-size add-size shared-slice-read-size size-requires add-result returns)
+    tie.close (tie.spec sub-result mul-result mul-size add-size shared-slice-read-size size-requires add-result returns)

@@ -24,5 +24,4 @@ returns c = rw (c .before .before .place-of .ensures) refl
 
 pub row-at-spec : {M : Type 1} → statement M
 row-at-spec =
-    tie.close
-    (tie.spec place-of-requires add-t4 shared-slice-read-t6 add-t7 shared-slice-read-t9 returns)
+    tie.close (tie.spec place-of-requires add-t4 shared-slice-read-t6 add-t7 shared-slice-read-t9 returns)

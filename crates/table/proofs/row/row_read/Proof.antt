@@ -37,12 +37,4 @@ returns-2 c =
 
 pub row-read-spec : {M : Type 1} → statement M
 row-read-spec =
-    tie.close
-    (tie.spec
-    read-for-requires
-    enum-known-judgement
-    enum-known-judgement-2
-    cast-row-among
-    row-among-requires
-    returns
-    returns-2)
+    tie.close (tie.spec read-for-requires enum-known-judgement enum-known-judgement-2 cast-row-among row-among-requires returns returns-2)

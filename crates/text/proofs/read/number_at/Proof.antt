@@ -117,23 +117,5 @@ returns-6 c =
 
 pub number-at-spec : {M : Type 1} → statement M
 number-at-spec =
-    tie.close
-    (tie.spec
-    Inv-loop
-    μ-loop
-    loop-holds
-    add-loop
-    add-b
-    shared-slice-read-b
-    returns
-    returns-2
-    returns-3
-    returns-4
-    returns-5
-    mul-value
-    digit-value-requires
-    add-value
-    add-digits
-    loop-less
-    loop-again
-    returns-6)
+    tie.close (tie.spec Inv-loop μ-loop loop-holds add-loop add-b shared-slice-read-b returns returns-2 returns-3 returns-4 returns-5 mul-value
+    digit-value-requires add-value add-digits loop-less loop-again returns-6)

@@ -128,28 +128,6 @@ returns-5 c =
 
 pub parse-spec : {M : Type 1} → statement M
 parse-spec =
-    tie.close
-    (tie.spec
-    Inv-loop
-    μ-loop
-    loop-holds
-    refused-requires
-    returns
-    end-of-requires
-    number-at-requires
-    enum-known-digits
-    enum-told
-    refused-requires-2
-    returns-2
-    mul-numbers
-    array-write-numbers
-    add-count
-    add-at
-    add-at-2
-    loop-less
-    loop-again
-    refused-requires-3
-    returns-3
-    refused-requires-4
-    returns-4
-    returns-5)
+    tie.close (tie.spec Inv-loop μ-loop loop-holds refused-requires returns end-of-requires number-at-requires enum-known-digits enum-told
+    refused-requires-2 returns-2 mul-numbers array-write-numbers add-count add-at add-at-2 loop-less loop-again refused-requires-3 returns-3
+    refused-requires-4 returns-4 returns-5)
