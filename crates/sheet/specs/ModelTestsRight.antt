@@ -73,10 +73,10 @@ module _ (σ : Sheet) (q : State) where
       go (inr f) = absurd (nf (λ i h. stable (is-dec (is-eq (status q i) 3)) (f i h)))
 
   -- the tick is possible, or an arrival is pending, or the running job has had its most ticks
-  abbrev pub Held : Type 0
-  Held = ((i : ℕ) × Possible σ q (arrival i)) ⊎ ((i : ℕ) × Names σ i × (status q i ≡ 2) × (q .elapsed ≡ job σ i .most))
+  abbrev pub Barred : Type 0
+  Barred = ((i : ℕ) × Possible σ q (arrival i)) ⊎ ((i : ℕ) × Names σ i × (status q i ≡ 2) × (q .elapsed ≡ job σ i .most))
 
-  pub tick-or : Possible σ q tick ⊎ Held
+  pub tick-or : Possible σ q tick ⊎ Barred
   tick-or =
       go (find (length σ) Pending (λ i. is-dec (is-pending i)))
       (find (length σ) At-most (λ i. is-dec (is-and (is-eq (status q i) 2) (is-eq (q .elapsed) (job σ i .most)))))
@@ -89,7 +89,7 @@ module _ (σ : Sheet) (q : State) where
 
       go : ((i : ℕ) × In (length σ) i × Pending i) ⊎ ((i : ℕ) → In (length σ) i → ¬ (Pending i))
           → ((i : ℕ) × In (length σ) i × At-most i) ⊎ ((i : ℕ) → In (length σ) i → ¬ (At-most i))
-          → Possible σ q tick ⊎ Held
+          → Possible σ q tick ⊎ Barred
       go (inl w) s = inr (inl (w .0, (w .1, w .2 .0, w .2 .1)))
       go (inr f) (inl w) = inr (inr (w .0, w .1, w .2 .0, w .2 .1))
       go (inr f) (inr g) = inl ((λ i w. f i (w .0) (w .1, w .2)), (λ i h z n. g i h (z, n)))

@@ -17,7 +17,7 @@ use Rattle.plant.specs.Shop.{Shop, turn, older, longer}
 use Rattle.plant.specs.Turns.{turned, length-turned, turned-at, zeros-at, was-zero, Here, was-here}
 use Rattle.plant.specs.Once.{Once, on}
 use Rattle.sheet.specs.Model.{Sheet, Names, job, Good, latest, State, status, initial, Possible, Finished, finished, busy, next, Late, plant}
-use Rattle.sheet.specs.ModelTestsRight.{is-possible, is-late, is-busy, is-finished, tick-or, Held}
+use Rattle.sheet.specs.ModelTestsRight.{is-possible, is-late, is-busy, is-finished, tick-or, Barred}
 use Rattle.sheet.specs.ModelTests.{possible, late}
 
 abbrev pub same-state : State → State → Bool
@@ -49,7 +49,7 @@ tests σ = record {
 pub moves : (σ : Sheet) → Good σ → Moves (plant σ)
 moves σ good q = go (tick-or σ q)
   where
-    go : Possible σ q tick ⊎ Held σ q → Possible σ q tick ⊎ (((i : ℕ) × Possible σ q (arrival i)) ⊎ ((i : ℕ) × Possible σ q (ending i)))
+    go : Possible σ q tick ⊎ Barred σ q → Possible σ q tick ⊎ (((i : ℕ) × Possible σ q (arrival i)) ⊎ ((i : ℕ) × Possible σ q (ending i)))
     go (inl p) = inl p
     go (inr (inl w)) = inr (inl w)
     go (inr (inr w)) = inr (inr (w .0, (w .1, w .2, omega (arith, good .each (w .0) (w .1) .ordered, w .3))))
