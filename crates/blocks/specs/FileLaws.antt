@@ -12,7 +12,7 @@ use Rattle.blocks.specs.Sizes.{block-bytes, block-slots, slot-bytes, mos
 use Rattle.blocks.specs.File.{block-of, job-slot, row-slot, block-for, written, blocks-of, bytes-of}
 use Rattle.sheet.specs.Arrays.{job-of, sheet-of}
 use Rattle.sheet.specs.ArraysLaws.{length-sheet}
-use Rattle.blocks.specs.Held.{tab}
+use Rattle.blocks.specs.Tab.{tab}
 use Rattle.blocks.specs.TabLaws.{take-is-tab, part-tab, map-tab}
 use Rattle.blocks.specs.BlockLaws.{block-length}
 

@@ -3,7 +3,7 @@
 pub mod Sizes
 pub mod Bytes
 pub mod File
-pub mod Held
+pub mod Tab
 pub mod Fields
 -- What follows:
 pub mod Starred

@@ -11,7 +11,7 @@ use Rattle.blocks.specs.Bytes.{le16, le32, u32-at, Each-byte}
 use Rattle.blocks.specs.BytesLaws.{Stands, stands-first, stands-rest, stands-both, u16-of-le16, u32-of-le32, le16-of-u16, le32-of-u32}
 use Rattle.blocks.specs.File.{job-slot, row-slot, block-of}
 use Rattle.blocks.specs.Fields.{Framed, slot-at, job-from, row-from}
-use Rattle.blocks.specs.Held.{tab}
+use Rattle.blocks.specs.Tab.{tab}
 use Rattle.blocks.specs.TabLaws.{length-tab, getD-tab}
 use Rattle.blocks.specs.BlockLaws.{slot-of, made}
 

@@ -13,7 +13,7 @@ use Rattle.look.specs.declared.Look.{Look}
 use Rattle.blocks.specs.Sizes.{block-bytes}
 use Rattle.blocks.specs.Bytes.{Each-byte}
 use Rattle.blocks.specs.Fields.{slot-at, job-from}
-use Rattle.blocks.specs.Held.{tab}
+use Rattle.blocks.specs.Tab.{tab}
 use Rattle.blocks.specs.TabLaws.{length-tab, getD-tab}
 use Rattle.form.specs.BlockTest.{fours}
 use Rattle.table.specs.Reading.{block-at, good, Says}

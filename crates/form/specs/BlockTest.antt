@@ -8,7 +8,7 @@ use Rattle.sheet.specs.Form.{Good-entry}
 use Rattle.blocks.specs.Sizes.{body-bytes, block-slots, slot-bytes, most-jobs}
 use Rattle.blocks.specs.Bytes.{u16-at, u32-at}
 use Rattle.blocks.specs.Fields.{Framed, slot-at, job-from, row-from}
-use Rattle.blocks.specs.Held.{tab}
+use Rattle.blocks.specs.Tab.{tab}
 
 -- zero from a place up to the check
 abbrev pub Zeros : List ℕ → ℕ → Type 0

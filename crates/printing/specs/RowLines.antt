@@ -2,7 +2,7 @@
 use Prim.Native.Nat.{ℕ}
 use mathlib.Core.List.{List, map}
 use Rattle.blocks.specs.File.{joined}
-use Rattle.blocks.specs.Held.{tab}
+use Rattle.blocks.specs.Tab.{tab}
 use Rattle.blocks.specs.Fields.{row-from}
 use Rattle.table.specs.Places.{place}
 use Rattle.lines.specs.Lines.{row-line}

@@ -10,7 +10,7 @@ use Rattle.sheet.specs.Model.{Sheet}
 use Rattle.sheet.specs.Table.{Entry, no-entry}
 use Rattle.blocks.specs.Sizes.{most-jobs}
 use Rattle.blocks.specs.File.{joined}
-use Rattle.blocks.specs.Held.{tab}
+use Rattle.blocks.specs.Tab.{tab}
 use Rattle.blocks.specs.TabLaws.{length-tab, getD-tab, tab-snoc}
 use Rattle.blocks.specs.Bytes.{u32-at}
 use Rattle.blocks.specs.Fields.{row-from}

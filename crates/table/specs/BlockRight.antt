@@ -14,7 +14,7 @@ use Rattle.blocks.specs.Bytes.{u32-at, Each-byte}
 use Rattle.blocks.specs.BytesLaws.{Stands}
 use Rattle.blocks.specs.File.{row-slot, block-of, block-for}
 use Rattle.blocks.specs.Fields.{slot-at, row-from}
-use Rattle.blocks.specs.Held.{tab}
+use Rattle.blocks.specs.Tab.{tab}
 use Rattle.blocks.specs.TabLaws.{length-tab, getD-tab}
 use Rattle.blocks.specs.BlockLaws.{slot-of, framed}
 use Rattle.blocks.specs.SlotLaws.{rows-made}

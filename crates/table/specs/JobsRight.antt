@@ -13,7 +13,7 @@ use Rattle.blocks.specs.Sizes.{slot-bytes, most-jobs}
 use Rattle.blocks.specs.Bytes.{Each-byte}
 use Rattle.blocks.specs.File.{job-slot, block-for}
 use Rattle.blocks.specs.Fields.{slot-at, job-from}
-use Rattle.blocks.specs.Held.{tab}
+use Rattle.blocks.specs.Tab.{tab}
 use Rattle.blocks.specs.TabLaws.{length-tab, getD-tab}
 use Rattle.blocks.specs.BlockLaws.{framed}
 use Rattle.blocks.specs.SlotLaws.{jobs-made}

@@ -12,7 +12,7 @@ use Rattle.sheet.specs.Table.{Entry, at}
 use Rattle.blocks.specs.Sizes.{header-bytes}
 use Rattle.blocks.specs.Bytes.{u16-at, u32-at}
 use Rattle.blocks.specs.Fields.{slot-at, job-from, row-from}
-use Rattle.blocks.specs.Held.{tab}
+use Rattle.blocks.specs.Tab.{tab}
 use Rattle.blocks.specs.TabLaws.{length-tab, getD-tab}
 use Rattle.table.specs.Reading.{block-at, good, Says}
 use Rattle.table.specs.ReadingLaws.{in-first, jobs-framed, job-there}

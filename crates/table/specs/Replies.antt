@@ -9,7 +9,7 @@ use lib.IntN.{ℤ, pos, _+ℤ_, _-ℤ_}
 use Rattle.sheet.specs.Model.{Job, Sheet, job, status, state-of, no-job}
 use Rattle.sheet.specs.ModelTests.{named}
 use Rattle.sheet.specs.Table.{Entry, at}
-use Rattle.blocks.specs.Held.{tab}
+use Rattle.blocks.specs.Tab.{tab}
 use Rattle.table.specs.Reading.{Reading, good, bad, Says}
 use Rattle.table.specs.declared.row.RowReply.{RowReply}
 use Rattle.table.specs.declared.listing.ListingReply.{ListingReply}

@@ -4,7 +4,7 @@ ghost use Prim.Native.Nat.{_≤_, _+_, _*_};
 ghost use lib.ListN.{length};
 ghost use Rattle.blocks.specs.Sizes.{block-bytes, header-bytes};
 ghost use Rattle.blocks.specs.Bytes.{u16-at};
-ghost use Rattle.blocks.specs.Held.{tab};
+ghost use Rattle.blocks.specs.Tab.{tab};
 ghost use Rattle.table.specs.Judging.{Counts};
 ghost use Rattle.table.specs.Replies.{Answers, unlisted, listing-reply};
 ghost use Rattle.table.specs.Read.{reading};

@@ -10,7 +10,7 @@ use lib.Seq.{paste, length-paste, take-paste, take-all}
 use Rattle.blocks.specs.Sizes.{block-bytes, body-bytes, header-bytes}
 use Rattle.blocks.specs.Bytes.{le32, check-of}
 use Rattle.blocks.specs.File.{joined, header, body-of, sealed, block-of}
-use Rattle.blocks.specs.Held.{tab}
+use Rattle.blocks.specs.Tab.{tab}
 use Rattle.blocks.specs.TabLaws.{length-tab, tab-snoc}
 
 -- header and slots so far, of a block that will have `used`

@@ -6,7 +6,7 @@ ghost use lib.ListN.{length, take};
 ghost use Rattle.blocks.specs.Sizes.{block-bytes, body-bytes, block-slots, most-jobs, most-rows};
 ghost use Rattle.blocks.specs.File.{header, sealed, block-of, job-slot, row-slot, blocks-of};
 ghost use Rattle.sheet.specs.Arrays.{job-of, sheet-of};
-ghost use Rattle.blocks.specs.Held.{row-of};
+ghost use Rattle.blocks.specs.Tab.{row-of};
 use blocks::check;
 use blocks::letters::LETTERS;
 use blocks::numbers::bytes32;

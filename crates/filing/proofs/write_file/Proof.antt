@@ -11,7 +11,7 @@ use Rattle.sheet.specs.Arrays.{sheet-of}
 use Rattle.sheet.specs.ArraysLaws.{length-sheet}
 use Rattle.blocks.specs.Sizes.{block-bytes, block-slots}
 use Rattle.blocks.specs.File.{written, blocks-of}
-use Rattle.blocks.specs.Held.{tab}
+use Rattle.blocks.specs.Tab.{tab}
 use Rattle.blocks.specs.FileLaws.{block-more, block-first, jobs-block, rows-block}
 use Rattle.filing.specs.Filing.{entry-at}
 use Rattle.filing.specs.FilingLaws.{lent-front, all-filed}

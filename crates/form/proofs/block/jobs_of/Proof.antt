@@ -1,6 +1,6 @@
 -- Eight slots of four numbers each, in their places. Assumes nothing.
 use borrow.Author.Needs.{needs}
-use Rattle.blocks.specs.Held.{tab}
+use Rattle.blocks.specs.Tab.{tab}
 use Rattle.form.specs.BlockTest.{fours}
 use Rattle.form.proofs.block.jobs_of.Statement.{statement}
 use Rattle.form.proofs.block.jobs_of.Tie as tie

@@ -1,5 +1,5 @@
 -- A row as the code holds it, a word and a mark; and a list by its places.
-use Prim.Native.Nat.{ℕ, zero, suc, _+_, _/_, _%_}
+use Prim.Native.Nat.{ℕ, zero, suc, _/_, _%_}
 use mathlib.Core.List.{List, [], _∷_}
 use Rattle.sheet.specs.Table.{Entry}
 
