@@ -34,59 +34,8 @@ Inv-loop out₀ n work order count total start stop b₀ out b =
 abbrev μ-loop : tie.MeasureT-loop
 μ-loop out₀ n work order count total start stop b₀ out b = total - b
 
-blocks-of-requires : tie.Need-blocks-of-requires Inv-loop μ-loop
-blocks-of-requires c κs = search needs
-
-sub-write-jobs : tie.Need-sub-write-jobs Inv-loop μ-loop
-sub-write-jobs c = search needs
-
-part-write-jobs-start : tie.Need-part-write-jobs-start Inv-loop μ-loop
-part-write-jobs-start c = search needs
-
-part-write-jobs-end : tie.Need-part-write-jobs-end Inv-loop μ-loop
-part-write-jobs-end c = search needs
-
-cast-write-jobs : tie.Need-cast-write-jobs Inv-loop μ-loop
-cast-write-jobs c = search needs
-
-write-jobs-requires : tie.Need-write-jobs-requires Inv-loop μ-loop
-write-jobs-requires c κs = search needs
-
 loop-holds : tie.Need-loop-holds Inv-loop μ-loop
 loop-holds c = (search needs, (search needs, (refl, λ σ old l e. e)))
-
-sub-from : tie.Need-sub-from Inv-loop μ-loop
-sub-from c = search needs
-
-mul-from : tie.Need-mul-from Inv-loop μ-loop
-mul-from c = search needs
-
-sub-used-by : tie.Need-sub-used-by Inv-loop μ-loop
-sub-used-by c = search needs
-
-used-by-requires : tie.Need-used-by-requires Inv-loop μ-loop
-used-by-requires c κs = search needs
-
-mul-at : tie.Need-mul-at Inv-loop μ-loop
-mul-at c = search needs
-
-add-end : tie.Need-add-end Inv-loop μ-loop
-add-end c = search needs
-
-sub-write-rows : tie.Need-sub-write-rows Inv-loop μ-loop
-sub-write-rows c = search needs
-
-part-write-rows-start : tie.Need-part-write-rows-start Inv-loop μ-loop
-part-write-rows-start c = search needs
-
-part-write-rows-end : tie.Need-part-write-rows-end Inv-loop μ-loop
-part-write-rows-end c = search needs
-
-cast-write-rows : tie.Need-cast-write-rows Inv-loop μ-loop
-cast-write-rows c = search needs
-
-cast-write-rows-2 : tie.Need-cast-write-rows-2 Inv-loop μ-loop
-cast-write-rows-2 c = search needs
 
 write-rows-requires : tie.Need-write-rows-requires Inv-loop μ-loop
 write-rows-requires c κs =
@@ -95,12 +44,6 @@ write-rows-requires c κs =
     let l = c .before .before .before .loop in
     let u = c .before .used-by in
     (search needs, lent-front (block-slots * (l .b - 1) + u .result) (a .count) (a .work .now) (a .order .now) (omega (arith, u .ensures .0)) (s .pre .0 .1))
-
-add-b : tie.Need-add-b Inv-loop μ-loop
-add-b c = search needs
-
-loop-less : tie.Need-loop-less Inv-loop μ-loop
-loop-less c = search needs
 
 loop-again : tie.Need-loop-again Inv-loop μ-loop
 loop-again c =
@@ -122,9 +65,6 @@ loop-again c =
       ),
     )
 
-same-length : tie.Need-same-length Inv-loop μ-loop
-same-length c = search needs
-
 returns : tie.Need-returns Inv-loop μ-loop
 returns c =
     let s = c .before .before .before .before .before .before .before .before .before in
@@ -142,6 +82,8 @@ returns c =
 
 pub write-file-spec : {M : Type 1} → statement M
 write-file-spec =
-    tie.close (tie.spec Inv-loop μ-loop blocks-of-requires sub-write-jobs part-write-jobs-start part-write-jobs-end cast-write-jobs write-jobs-requires
-    loop-holds sub-from mul-from sub-used-by used-by-requires mul-at add-end sub-write-rows part-write-rows-start part-write-rows-end cast-write-rows
-    cast-write-rows-2 write-rows-requires add-b loop-less loop-again same-length returns)
+    tie.close
+    (tie.spec Inv-loop μ-loop (λ c κs. search needs) (λ c. search needs) (λ c. search needs) (λ c. search needs) (λ c. search needs)
+    (λ c κs. search needs) loop-holds (λ c. search needs) (λ c. search needs) (λ c. search needs) (λ c κs. search needs) (λ c. search needs)
+    (λ c. search needs) (λ c. search needs) (λ c. search needs) (λ c. search needs) (λ c. search needs) (λ c. search needs) write-rows-requires
+    (λ c. search needs) (λ c. search needs) loop-again (λ c. search needs) returns)

@@ -25,15 +25,6 @@ Inv-loop part₀ n k total work order from used rows s₀ part s =
 abbrev μ-loop : tie.MeasureT-loop
 μ-loop part₀ n k total work order from used rows s₀ part s = used - s
 
-header-of-requires : tie.Need-header-of-requires Inv-loop μ-loop
-header-of-requires c κs = search needs
-
-slice-aggregate-put : tie.Need-slice-aggregate-put Inv-loop μ-loop
-slice-aggregate-put c = search needs
-
-put-requires : tie.Need-put-requires Inv-loop μ-loop
-put-requires c κs = search needs
-
 loop-holds : tie.Need-loop-holds Inv-loop μ-loop
 loop-holds c =
     let s = c .before .before .before .before .before .before .before .before in
@@ -57,24 +48,6 @@ slot-at-requires c κs =
     let h = place-small (a .from + a .used) (a .work .now) (a .order .now) 0 x (a .from + c .before .before .loop .s) (omega arith) in
     (omega (arith, h, c .place-at .ensures), x .words)
 
-mul-put : tie.Need-mul-put Inv-loop μ-loop
-mul-put c = search needs
-
-add-put : tie.Need-add-put Inv-loop μ-loop
-add-put c = search needs
-
-slice-aggregate-put-2 : tie.Need-slice-aggregate-put-2 Inv-loop μ-loop
-slice-aggregate-put-2 c = search needs
-
-put-requires-2 : tie.Need-put-requires-2 Inv-loop μ-loop
-put-requires-2 c κs = search needs
-
-add-s : tie.Need-add-s Inv-loop μ-loop
-add-s c = search needs
-
-loop-less : tie.Need-loop-less Inv-loop μ-loop
-loop-less c = search needs
-
 loop-again : tie.Need-loop-again Inv-loop μ-loop
 loop-again c =
     let a = c .before .before .before .before .before .before .before .before .before .before .before .before .before .before .before .before .before .args in
@@ -85,18 +58,6 @@ loop-again c =
     let t = slot-turn slot-bytes row-slot (λ x. refl) (a .n) (a .k) (a .total) (a .used) (row (a .work .now) (a .order .now) (a .from))
     (l .s) (l .part) (r .result) (p .last .0) (omega arith) (omega arith) (l .inv .1 .0) (l .inv .1 .1) e (p .ensures) in
     (search needs, t)
-
-mul-seal : tie.Need-mul-seal Inv-loop μ-loop
-mul-seal c = search needs
-
-add-seal : tie.Need-add-seal Inv-loop μ-loop
-add-seal c = search needs
-
-seal-requires : tie.Need-seal-requires Inv-loop μ-loop
-seal-requires c κs = search needs
-
-same-length : tie.Need-same-length Inv-loop μ-loop
-same-length c = search needs
 
 returns : tie.Need-returns Inv-loop μ-loop
 returns c =
@@ -109,5 +70,7 @@ returns c =
 
 pub write-rows-spec : {M : Type 1} → statement M
 write-rows-spec =
-    tie.close (tie.spec Inv-loop μ-loop header-of-requires slice-aggregate-put put-requires loop-holds add-place-at place-at-requires slot-at-requires
-    mul-put add-put slice-aggregate-put-2 put-requires-2 add-s loop-less loop-again mul-seal add-seal seal-requires same-length returns)
+    tie.close
+    (tie.spec Inv-loop μ-loop (λ c κs. search needs) (λ c. search needs) (λ c κs. search needs) loop-holds add-place-at place-at-requires
+    slot-at-requires (λ c. search needs) (λ c. search needs) (λ c. search needs) (λ c κs. search needs) (λ c. search needs) (λ c. search needs)
+    loop-again (λ c. search needs) (λ c. search needs) (λ c κs. search needs) (λ c. search needs) returns)

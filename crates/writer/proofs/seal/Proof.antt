@@ -4,24 +4,6 @@ use borrow.Author.Needs.{needs}
 use Rattle.writer.proofs.seal.Statement.{statement}
 use Rattle.writer.proofs.seal.Tie as tie
 
-put-zeros-requires : tie.Need-put-zeros-requires
-put-zeros-requires c κs = search needs
-
-check-of-requires : tie.Need-check-of-requires
-check-of-requires c κs = search needs
-
-bytes32-requires : tie.Need-bytes32-requires
-bytes32-requires c κs = search needs
-
-slice-aggregate-put : tie.Need-slice-aggregate-put
-slice-aggregate-put c = search needs
-
-put-requires : tie.Need-put-requires
-put-requires c κs = search needs
-
-same-length : tie.Need-same-length
-same-length c = search needs
-
 returns : tie.Need-returns
 returns c =
     let z = c .before .before .before .before .before .before .before .before .before .before in
@@ -33,4 +15,6 @@ returns c =
 
 pub seal-spec : {M : Type 1} → statement M
 seal-spec =
-    tie.close (tie.spec put-zeros-requires check-of-requires bytes32-requires slice-aggregate-put put-requires same-length returns)
+    tie.close
+    (tie.spec (λ c κs. search needs) (λ c κs. search needs) (λ c κs. search needs) (λ c. search needs) (λ c κs. search needs) (λ c. search needs)
+    returns)

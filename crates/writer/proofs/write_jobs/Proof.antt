@@ -20,15 +20,6 @@ Inv-loop part₀ n total jobs many s₀ part s =
 abbrev μ-loop : tie.MeasureT-loop
 μ-loop part₀ n total jobs many s₀ part s = n - s
 
-header-of-requires : tie.Need-header-of-requires Inv-loop μ-loop
-header-of-requires c κs = search needs
-
-slice-aggregate-put : tie.Need-slice-aggregate-put Inv-loop μ-loop
-slice-aggregate-put c = search needs
-
-put-requires : tie.Need-put-requires Inv-loop μ-loop
-put-requires c κs = search needs
-
 loop-holds : tie.Need-loop-holds Inv-loop μ-loop
 loop-holds c =
     let s = c .before .before .before .before .before .before .before in
@@ -39,33 +30,6 @@ loop-holds c =
     (a .part .now) (p .last .0) (s .pre .0) (rw (h .ensures) at (p .ensures)) in
     (search needs, t)
 
-mul-job-slot : tie.Need-mul-job-slot Inv-loop μ-loop
-mul-job-slot c = search needs
-
-array-copy-out-job-slot : tie.Need-array-copy-out-job-slot Inv-loop μ-loop
-array-copy-out-job-slot c = search needs
-
-job-slot-requires : tie.Need-job-slot-requires Inv-loop μ-loop
-job-slot-requires c κs = search needs
-
-mul-put : tie.Need-mul-put Inv-loop μ-loop
-mul-put c = search needs
-
-add-put : tie.Need-add-put Inv-loop μ-loop
-add-put c = search needs
-
-slice-aggregate-put-2 : tie.Need-slice-aggregate-put-2 Inv-loop μ-loop
-slice-aggregate-put-2 c = search needs
-
-put-requires-2 : tie.Need-put-requires-2 Inv-loop μ-loop
-put-requires-2 c κs = search needs
-
-add-s : tie.Need-add-s Inv-loop μ-loop
-add-s c = search needs
-
-loop-less : tie.Need-loop-less Inv-loop μ-loop
-loop-less c = search needs
-
 loop-again : tie.Need-loop-again Inv-loop μ-loop
 loop-again c =
     let a = c .before .before .before .before .before .before .before .before .before .before .before .before .before .before .before .before .args in
@@ -75,18 +39,6 @@ loop-again c =
     let t = slot-turn slot-bytes job-slot (λ x. refl) (a .n) 0 (a .total) (a .n) (λ i. job-of (getD (a .t4) i []))
     (l .s) (l .part) (j .result) (p .last .0) (omega arith) (omega arith) (l .inv .1 .0) (l .inv .1 .1) (j .ensures) (p .ensures) in
     (search needs, t)
-
-mul-seal : tie.Need-mul-seal Inv-loop μ-loop
-mul-seal c = search needs
-
-add-seal : tie.Need-add-seal Inv-loop μ-loop
-add-seal c = search needs
-
-seal-requires : tie.Need-seal-requires Inv-loop μ-loop
-seal-requires c κs = search needs
-
-same-length : tie.Need-same-length Inv-loop μ-loop
-same-length c = search needs
 
 returns : tie.Need-returns Inv-loop μ-loop
 returns c =
@@ -100,5 +52,7 @@ returns c =
 
 pub write-jobs-spec : {M : Type 1} → statement M
 write-jobs-spec =
-    tie.close (tie.spec Inv-loop μ-loop header-of-requires slice-aggregate-put put-requires loop-holds mul-job-slot array-copy-out-job-slot
-    job-slot-requires mul-put add-put slice-aggregate-put-2 put-requires-2 add-s loop-less loop-again mul-seal add-seal seal-requires same-length returns)
+    tie.close
+    (tie.spec Inv-loop μ-loop (λ c κs. search needs) (λ c. search needs) (λ c κs. search needs) loop-holds (λ c. search needs) (λ c. search needs)
+    (λ c κs. search needs) (λ c. search needs) (λ c. search needs) (λ c. search needs) (λ c κs. search needs) (λ c. search needs) (λ c. search needs)
+    loop-again (λ c. search needs) (λ c. search needs) (λ c κs. search needs) (λ c. search needs) returns)
