@@ -22,19 +22,12 @@ fn wide(x: u16) -> usize
     x as usize
 }
 
-// The place that stands at i in the order.
-fn place_at(order: &[u16; HEADS], i: usize) -> usize
-    requires { ⌜ (i < 16384) × (length (now order) ≡ 16384) ⌝ }
-    ensures { λ r. ⌜ r ≡ getD (now (order .entry)) i 0 ⌝ }
+// The slot of the row at the place that stands at i in the order.
+fn slot_at(work: &[u32], order: &[u16; HEADS], i: usize) -> [u8; SLOT]
+    requires { ⌜ (i < 16384) × ((getD (now order) i 0 < most-live) × (work-words ≤ length (now work))) ⌝ }
+    ensures { λ r. ⌜ r ≡ row-slot (entry-at (now (work .entry)) (getD (now (order .entry)) i 0)) ⌝ }
 {
-    wide(order[i])
-}
-
-// The slot of the row at a place.
-fn slot_at(work: &[u32], p: usize) -> [u8; SLOT]
-    requires { ⌜ (p < most-live) × (work-words ≤ length (now work)) ⌝ }
-    ensures { λ r. ⌜ r ≡ row-slot (entry-at (now (work .entry)) p) ⌝ }
-{
+    let p = wide(order[i]);
     let k = places::key_at(work, p);
     writer::row_slot(k.word, places::note::note_at(work, p))
 }
@@ -59,7 +52,7 @@ fn write_rows(
     let rows = used as usize;
     let mut s: usize = 0;
     while s < rows {
-        let slot = slot_at(work, place_at(order, from + s));
+        let slot = slot_at(work, order, from + s);
         put(part, HEADER + SLOT * s, &slot);
         s += 1;
     }
