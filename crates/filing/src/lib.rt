@@ -1,7 +1,7 @@
 // Filing: the table's file written by an order of places, each row read from the work slice at its place.
 ghost use mathlib.Core.Path.{_≡_};
 ghost use mathlib.Core.List.{_++_, map};
-ghost use Prim.Native.Nat.{_≤_, _<_, _+_, _*_};
+ghost use Prim.Native.Nat.{ℕ, _≤_, _<_, _+_, _*_};
 ghost use lib.ListN.{length, take, drop, getD};
 ghost use Rattle.sheet.specs.Arrays.{sheet-of};
 ghost use Rattle.places.specs.Places.{most-live, work-words};
@@ -44,7 +44,7 @@ fn write_rows(
     used: u8,
 )
     requires { ⌜ (length (now part) ≡ block-bytes) × (used ≤ block-slots) ⌝ }
-    requires { ⌜ Lent (from + used) (now work) (now order) ⌝ }
+    requires { ⌜ (from + used ≤ most-live) × (work-words ≤ length (now work)) × ((i : ℕ) → i < from + used → getD (now order) i 0 < most-live) ⌝ }
     ensures { λ _. ⌜ now (part .exit) ≡ block-of n k total (map row-slot (entries-from (now (work .entry)) (now (order .entry)) from used)) ⌝ }
 {
     let head = writer::header_of(n, used, k, total);

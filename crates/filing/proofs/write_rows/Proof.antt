@@ -3,7 +3,6 @@ use Prim.Native.Nat.{_+_, _-_}
 use native.Mathlib.Omega.{arith}
 use mathlib.Core.Path.{refl}
 use lib.ListN.{getD}
-use Rattle.order.specs.LentLaws.{place-small}
 use Rattle.blocks.specs.File.{row-slot}
 use Rattle.writer.specs.WriteLaws.{Filled, filled-none, filled-more, filled-all}
 use Rattle.filing.specs.Filing.{entry-at}
@@ -22,14 +21,10 @@ loop-holds c =
     let s = c .before .before .before .before .before .before .before .before in
     filled-none (s .args .part .now) (s .pre .0 .0) (rw (c .before .before .before .before .before .header-of .ensures) at (c .before .before .put .ensures))
 
-add-slot-at : tie.Need-add-slot-at Inv-loop μ-loop
-add-slot-at c = omega (arith, c .before .before .before .before .before .before .before .before .before .before .pre .1 .room)
-
 slot-at-requires : tie.Need-slot-at-requires Inv-loop μ-loop
 slot-at-requires c κs =
     let s = c .before .before .before .before .before .before .before .before .before .before in
-    let x = s .pre .1 in
-    (omega (arith, x .room), (place-small _ _ _ 0 x (s .args .from + c .before .loop .s) (omega arith), x .words))
+    (omega arith, (s .pre .1 .2 (s .args .from + c .before .loop .s) (omega arith), s .pre .1 .1))
 
 loop-again : tie.Need-loop-again Inv-loop μ-loop
 loop-again c =
@@ -42,6 +37,6 @@ returns c = filled-all (c .before .before .before .before .before .loop .inv) (o
 pub write-rows-spec : {M : Type 1} → statement M
 write-rows-spec =
     tie.close
-    (tie.spec Inv-loop μ-loop (λ c κs. search needs) (λ c. search needs) (λ c κs. search needs) loop-holds add-slot-at slot-at-requires
+    (tie.spec Inv-loop μ-loop (λ c κs. search needs) (λ c. search needs) (λ c κs. search needs) loop-holds (λ c. search needs) slot-at-requires
     (λ c. search needs) (λ c. search needs) (λ c. search needs) (λ c κs. search needs) (λ c. search needs) (λ c. search needs) loop-again
     (λ c. search needs) (λ c. search needs) (λ c κs. search needs) (λ c. search needs) returns)
