@@ -71,7 +71,8 @@ pub fn write_file(
 )
     requires { ⌜ (n ≤ most-jobs) × Lent count (now work) (now order) ⌝ }
     requires { ⌜ block-bytes * blocks-of count ≤ length (now out) ⌝ }
-    ensures { λ _. ⌜ now (out .exit) ≡ bytes-of (sheet-of jobs n) (entries-at (now (work .entry)) (take count (now (order .entry)))) ++ drop (block-bytes * blocks-of count) (now (out .entry)) ⌝ }
+    ensures { λ _. ⌜ now (out .exit) ≡ bytes-of (sheet-of jobs n) (entries-at (now (work .entry)) (take count (now (order .entry))))
+        ++ drop (block-bytes * blocks-of count) (now (out .entry)) ⌝ }
 {
     let total = writer::blocks_of(count);
     let start: usize = 0;

@@ -27,11 +27,13 @@ joined-snoc g (y ∷ xs) x = rw (joined-snoc g xs x) (sym (append-assoc (g y) (j
 
 module _ {A : Type 0} {g : A → List ℕ} {n k total used : ℕ} {f : ℕ → A} where
   -- the header first
-  pub filled-none : (old : List ℕ) {new : List ℕ} → length old ≡ block-bytes → new ≡ paste old 0 (header n used k total) header-bytes → Filled g n k total used f new 0
+  pub filled-none : (old : List ℕ) {new : List ℕ} → length old ≡ block-bytes → new ≡ paste old 0 (header n used k total) header-bytes
+      → Filled g n k total used f new 0
   unfolding tab joined
   filled-none old l e =
       let h = header n used k total in
-      (omega arith, ap length e ∙ length-paste old 0 h header-bytes (omega arith) (omega arith) ∙ l, record { front = rw e (take-paste old 0 h header-bytes (omega arith) (omega arith)) })
+      let m = length-paste old 0 h header-bytes (omega arith) (omega arith) in
+      (omega arith, ap length e ∙ m ∙ l, record { front = rw e (take-paste old 0 h header-bytes (omega arith) (omega arith)) })
 
   -- one slot more
   pub filled-more : ((a : A) → length (g a) ≡ slot-bytes) → used ≤ block-slots → {s : ℕ} {old slot new : List ℕ} → Filled g n k total used f old s → s < used
@@ -41,10 +43,10 @@ module _ {A : Type 0} {g : A → List ℕ} {n k total used : ℕ} {f : ℕ → A
       let y : length slot ≡ slot-bytes = ap length d ∙ wide (f s) in
       let z : header-bytes + slot-bytes * (s + 1) ≡ at + length slot = omega arith in
       let p : take (at + length slot) new ≡ take at old ++ take (length slot) slot = rw e (take-paste old at slot (length slot) (omega arith) (omega arith)) in
-      let t = rw (take-all (length slot) slot (omega arith), x .2 .front) at p in (
+      let t = rw (take-all (length slot) slot (omega arith), x .2 .front) at p ∙ append-assoc (header n used k total) (joined (map g (tab s f))) slot in (
         omega arith,
         ap length e ∙ length-paste old at slot (length slot) (omega arith) (omega arith) ∙ x .1,
-        record { front = rw (z, add-one s, tab-snoc s f, joined-snoc g (tab s f) (f s), ← d) (t ∙ append-assoc (header n used k total) (joined (map g (tab s f))) slot) },
+        record { front = rw (z, add-one s, tab-snoc s f, joined-snoc g (tab s f) (f s), ← d) t },
       )
 
   -- zeros and check last
@@ -58,7 +60,8 @@ module _ {A : Type 0} {g : A → List ℕ} {n k total used : ℕ} {f : ℕ → A
 
 -- zeros put behind the front, and the check behind them
 pub sealed-is : (old mid new : List ℕ) (at : ℕ) → length old ≡ block-bytes → at ≤ body-bytes
-    → mid ≡ paste old at (replicate (body-bytes - at) 0) (body-bytes - at) → new ≡ paste mid body-bytes (le32 (check-of (take body-bytes mid))) 4 → new ≡ sealed (take at old)
+    → mid ≡ paste old at (replicate (body-bytes - at) 0) (body-bytes - at) → new ≡ paste mid body-bytes (le32 (check-of (take body-bytes mid))) 4
+    → new ≡ sealed (take at old)
 unfolding sealed
 sealed-is old mid new at l h e d =
     let z : List ℕ = replicate (body-bytes - at) 0 in
@@ -66,7 +69,8 @@ sealed-is old mid new at l h e d =
     let n : length (take at old) ≡ at = omega (arith, length-take at old) in
     let m : at + (body-bytes - at) ≡ body-bytes = omega arith in
     let b : take (at + (body-bytes - at)) mid ≡ take at old ++ z =
-    rw e (take-paste old at z (body-bytes - at) (omega arith) (omega arith) ∙ ap (λ (r : List ℕ). take at old ++ r) (take-all (body-bytes - at) z (omega arith))) in
+    rw e (take-paste old at z (body-bytes - at) (omega arith) (omega arith)
+    ∙ ap (λ (r : List ℕ). take at old ++ r) (take-all (body-bytes - at) z (omega arith))) in
     let c : take body-bytes mid ≡ body-of (take at old) = rw n (rw m at b) in
     let o : length mid ≡ block-bytes = ap length e ∙ (length-paste old at z (body-bytes - at) (omega arith) (omega arith) ∙ l) in
     let r : drop block-bytes mid ≡ [] = drop-of-length-le mid {i = block-bytes} (omega arith) in

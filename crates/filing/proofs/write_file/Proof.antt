@@ -67,7 +67,8 @@ returns c =
     let R = rows (a .work .now) (a .order .now) (a .count) in
     let n = length-sheet (a .jobs) (a .n) (search needs) in
     let e : l .b ≡ blocks-of (a .count) = omega arith in
-    let f = block-first (t .result) σ R (omega arith) (a .out .now) (w .last .0) _ (jobs-block (a .jobs) (a .n) (search needs) (search needs) (t .result) R (w .last .0) (w .ensures)) refl in
+    let j = jobs-block (a .jobs) (a .n) (search needs) (search needs) (t .result) R (w .last .0) (w .ensures) in
+    let f = block-first (t .result) σ R (omega arith) (a .out .now) (w .last .0) _ j refl in
     rw (e, t .ensures) at (l .inv .3 σ (a .out .now) n f)
     ∙ ap (λ (w : List ℕ). w ++ drop (block-bytes * blocks-of (a .count)) (a .out .now))
     (all-filed (a .work .now) (a .order .now) (a .count) σ (omega (arith, s .pre .0 .1 .room, s .pre .0 .1 .halves)))

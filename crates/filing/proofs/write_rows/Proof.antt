@@ -29,7 +29,8 @@ slot-at-requires c κs =
 loop-again : tie.Need-loop-again Inv-loop μ-loop
 loop-again c =
     let l = c .before .before .before .before .before .before .before .loop in
-    filled-more (λ x. refl) (omega arith) (l .inv) (omega arith) (c .before .before .before .before .before .slot-at .ensures) (c .before .before .put2 .ensures)
+    filled-more (λ x. refl) (omega arith) (l .inv) (omega arith)
+    (c .before .before .before .before .before .slot-at .ensures) (c .before .before .put2 .ensures)
 
 returns : tie.Need-returns Inv-loop μ-loop
 returns c = filled-all (c .before .before .before .before .before .loop .inv) (omega arith) (c .before .before .seal .ensures)

@@ -26,7 +26,8 @@ loop-holds c =
 loop-again : tie.Need-loop-again Inv-loop μ-loop
 loop-again c =
     let l = c .before .before .before .before .before .before .before .before .loop in
-    filled-more (λ x. refl) (omega arith) (l .inv) (omega arith) (c .before .before .before .before .before .job-slot .ensures) (c .before .before .put2 .ensures)
+    filled-more (λ x. refl) (omega arith) (l .inv) (omega arith)
+    (c .before .before .before .before .before .job-slot .ensures) (c .before .before .put2 .ensures)
 
 returns : tie.Need-returns Inv-loop μ-loop
 returns c =
