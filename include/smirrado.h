@@ -53,7 +53,7 @@
 extern "C" {
 #endif
 
-#define SMIRRADO_MAKE_STACK 40960    /* measured: 34,664 */
+#define SMIRRADO_MAKE_STACK 40960    /* measured: 35,240 */
 #define SMIRRADO_ROW_STACK 512       /* 269 */
 #define SMIRRADO_ROW_QUICK_STACK 512 /* 269 */
 #define SMIRRADO_LISTING_STACK 512   /* 349 */
