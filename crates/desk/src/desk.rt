@@ -9,7 +9,7 @@ use state::word::{Elapsed, State, word_of};
 
 // A byte each for now, elapsed and the eight statuses. It belongs to the caller.
 #[repr(C)]
-#[derive(Drop)]
+#[derive(Clone, Copy)]
 pub struct Desk {
     pub now: u8,
     pub elapsed: u8,

@@ -18,14 +18,14 @@ use table::row::{RowReply, row};
 
 // A step's answer: number and detail. Its only result is the desk.
 #[repr(C)]
-#[derive(Drop)]
+#[derive(Clone, Copy)]
 pub struct StepReply {
     pub number: u32,
     pub detail: u32,
 }
 
 // The answer, and the desk after it.
-#[derive(Drop)]
+#[derive(Clone, Copy)]
 pub struct Stepped {
     pub reply: StepReply,
     pub desk: Desk,

@@ -1,4 +1,7 @@
 // Filing: the table's file written by an order of places, each row read from the work slice at its place.
+
+#![tactic(auto)]
+
 ghost use Rattle.std.specs.Prelude.{◌≡◌, ◌++◌, map, ℕ, ◌≤◌, ◌<◌, ◌+◌, ◌*◌, length, take, drop, get_or};
 ghost use Rattle.sheet.specs.Arrays.{sheet_of};
 ghost use Rattle.places.specs.Places.{most_live, work_words};

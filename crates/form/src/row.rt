@@ -11,7 +11,7 @@ use state::word::Elapsed;
 
 // What a pass over the jobs tells: a job does not fit or two run; or else whether one runs, whether an arrival is pending, and
 // whether one has run for its most ticks.
-#[derive(Drop)]
+#[derive(Clone, Copy)]
 pub enum Seen {
     Refused,
     Passed(bool, bool, bool),

@@ -1,4 +1,7 @@
 // The C interface: each call of the library under the name that include/smirrado.h gives it. Nothing is worked out here.
+
+#![tactic(auto)]
+
 ghost use Rattle.std.specs.Prelude.{◌≡◌};
 ghost use Rattle.engine.specs.Verdict.{Verdict};
 ghost use Rattle.maker.specs.Making.{Made};

@@ -1,4 +1,7 @@
 // Lines printed into a lent slice: each function puts its bytes at a place and answers the place behind them.
+
+#![tactic(auto)]
+
 ghost use Rattle.std.specs.Prelude.{[], ◌∷◌, map, ◌+◌, ◌≤◌, length, take};
 ghost use Rattle.plant.specs.Range.{In};
 ghost use Rattle.sheet.specs.Model.{state_of};

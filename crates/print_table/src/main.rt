@@ -1,4 +1,7 @@
 // The printing program: a sheet as text on standard input, its table on standard output.
+
+#![tactic(auto)]
+
 ghost use Rattle.io.specs.Counts.{IsPrefixLen};
 
 use printing::{MOST_PRINTED, MOST_READ};

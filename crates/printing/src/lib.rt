@@ -1,5 +1,8 @@
 // What the printing program prints for the bytes that it reads: text read, table made, lines put into a lent slice.
 // specs/Prints.antt says what is printed. The program above it only reads and writes.
+
+#![tactic(auto)]
+
 ghost use Rattle.std.specs.Prelude.{◌≤◌, length};
 ghost use Rattle.maker.specs.Making.{SheetLength};
 ghost use Rattle.printing.specs.Prints.{most_printed, SheetPrinted, TextPrinted};

@@ -1,1 +1,3 @@
 // The three demands, said of the calls as they are: no code. Open specs/Promises.antt first.
+
+#![tactic(auto)]

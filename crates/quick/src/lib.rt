@@ -1,4 +1,7 @@
 // A row without reading the whole file: blocks are read in order, up to the first that is bad or that does not end below the asked word.
+
+#![tactic(auto)]
+
 ghost use Rattle.quick.specs.Quick.{Quick};
 
 use table::row::{RowReply, row_read};

@@ -3,7 +3,7 @@ ghost use Rattle.std.specs.Prelude.{◌≡◌};
 ghost use Rattle.state.specs.EventByte.{event_of};
 
 // An event with the number of its job, 1 to 8; or nothing, for a byte that names none.
-#[derive(Drop)]
+#[derive(Clone, Copy)]
 pub enum Event {
     Tick,
     Arrival(u8),

@@ -4,15 +4,15 @@ ghost use Rattle.sheet.specs.Model.{word, state_of};
 ghost use Rattle.state.specs.Clocks.{Known, model};
 
 // Ticks since the running job's start. A start and an ending set this clock back.
-#[derive(Drop)]
+#[derive(Clone, Copy)]
 pub struct Elapsed(pub u8);
 
 // Ticks since a job's arrival. Only its arrival sets this clock back.
-#[derive(Drop)]
+#[derive(Clone, Copy)]
 pub struct Age(pub u8);
 
 // The tick now, the elapsed ticks of the running job (0 where none runs) and the eight statuses (0 past the last job).
-#[derive(Drop)]
+#[derive(Clone, Copy)]
 pub struct State {
     pub now: u8,
     pub elapsed: Elapsed,

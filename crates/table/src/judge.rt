@@ -14,7 +14,7 @@ use blocks::sizes::{BLOCK, HEADER, SLOT, SLOTS};
 use form::block::{jobs_good, jobs_of, rows_follow};
 
 // The bad block that ended the reading, or the number of rows in the blocks read.
-#[derive(Drop)]
+#[derive(Clone, Copy)]
 pub enum Judgement {
     Bad(u32),
     Good(u32),

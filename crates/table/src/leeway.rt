@@ -12,7 +12,7 @@ use state::bits::status_in;
 
 // A leeway's answer: number and detail, and on 0 the ticks.
 #[repr(C)]
-#[derive(Drop)]
+#[derive(Clone, Copy)]
 pub struct LeewayReply {
     pub number: u32,
     pub detail: u32,

@@ -15,7 +15,7 @@ use blocks::sizes::HEADER;
 
 // A listing's answer: number and detail, and on 0 the counts, the jobs' numbers (0 past the last job) and the row.
 #[repr(C)]
-#[derive(Drop)]
+#[derive(Clone, Copy)]
 pub struct ListingReply {
     pub number: u32,
     pub detail: u32,

@@ -12,7 +12,7 @@ use blocks::sizes::{BLOCK, HEADER, SLOT, SLOTS};
 use form::block::size;
 
 // The row that has a word, counted from 0, or none.
-#[derive(Drop)]
+#[derive(Clone, Copy)]
 pub enum Found {
     Nowhere,
     At(usize),

@@ -15,7 +15,7 @@ use crate::place::{Found, find, place_of};
 
 // A row's answer: number and detail, and on 0 the byte of starts and the tick code.
 #[repr(C)]
-#[derive(Drop)]
+#[derive(Clone, Copy)]
 pub struct RowReply {
     pub number: u32,
     pub detail: u32,

@@ -10,7 +10,7 @@ use lines::bytes::{LINE_END, NINE, SPACE, ZERO};
 const MOST: usize = 32;
 
 // What a text says: whether it is a sheet, how many numbers it has, and they, with zeros past the last.
-#[derive(Drop)]
+#[derive(Clone, Copy)]
 pub struct Parsed {
     pub ok: bool,
     pub count: usize,
@@ -18,7 +18,7 @@ pub struct Parsed {
 }
 
 // What stands at a place: a number of so many digits with this value, or none.
-#[derive(Drop)]
+#[derive(Clone, Copy)]
 enum Found {
     Digits(usize, u16),
     Nothing,

@@ -1,4 +1,7 @@
 // The parts of a file: headers, slots, the block of jobs, the end of a block, and how many blocks and bytes there are.
+
+#![tactic(auto)]
+
 ghost use Rattle.std.specs.Prelude.{◌≡◌, map, ◌≤◌, ◌+◌, ◌*◌, min, length, take};
 ghost use Rattle.blocks.specs.Sizes.{block_bytes, body_bytes, block_slots, most_jobs, most_rows};
 ghost use Rattle.blocks.specs.File.{header, sealed, block_of, job_slot, row_slot, blocks_of};
