@@ -1,0 +1,15 @@
+-- `put`: of the bytes, those passed stand in their places. Assumes nothing.
+use Prim.Native.Nat.{◌-◌, ◌≤◌}
+use native.Mathlib.Omega.{arith}
+use native.Mathlib.Numerals.{add-one}
+use mathlib.Core.Path.{◌≡◌, refl}
+use lib.ListN.{length, length-set}
+use lib.Seq.{paste, paste-zero, paste-suc}
+use borrow.Author.Rules.{rules}
+use Rattle.blocks.proofs.put.put.Given as goal
+
+abbrev pub invariant-loop-i : goal.invariant-loop-i
+invariant-loop-i l = (l.i ≤ length l.initial.out) × ((length l.out ≡ length l.l.bytes) × (l.out ≡ paste l.l.bytes l.bytes l.initial.out l.i))
+
+abbrev pub decreases-loop-i : goal.decreases-loop-i
+decreases-loop-i l = length l.initial.out - l.i

@@ -1,0 +1,16 @@
+-- Each case of the event is its case of the definition. Assumes nothing.
+use mathlib.Core.Path.{refl, subst}
+use borrow.Author.Rules.{rules}
+use Rattle.plant.specs.Reflect.{is_eq}
+use Rattle.state.specs.Tell.{same_test}
+use Rattle.desk.specs.Moving.{JobFits}
+use Rattle.desk.proofs.moves.allowed.Goals as goal
+
+pub has-requires : goal.has-requires
+has-requires c = subst JobFits c.e-1.given.1 c.requires
+
+pub returns-in-Tick : goal.returns-in-Tick
+returns-in-Tick c = rw c.enum_told-1.given.1 refl
+
+pub returns-in-Start : goal.returns-in-Start
+returns-in-Start c = rw c.e-1.given.1 (same_test c.has.ensures (is_eq _ 1))

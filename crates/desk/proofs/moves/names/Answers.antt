@@ -1,0 +1,19 @@
+-- Each case of the event is its case of the definition. Assumes nothing.
+use mathlib.Core.Path.{refl}
+use borrow.Author.Rules.{rules}
+use Rattle.desk.proofs.moves.names.Goals as goal
+
+pub returns-in-Tick : goal.returns-in-Tick
+returns-in-Tick c = λ σ h. rw c.enum_told-1.given.1 refl
+
+pub returns-in-Arrival : goal.returns-in-Arrival
+returns-in-Arrival c = λ σ h. rw (c.e-1.given.1, h) c.one_of_lem.ensures
+
+pub returns-in-Start : goal.returns-in-Start
+returns-in-Start c = λ σ h. rw (c.e-in-Start-1.given.1, h) c.one_of-in-Start.ensures
+
+pub returns-in-Ending : goal.returns-in-Ending
+returns-in-Ending c = λ σ h. rw (c.e-in-Ending-1.given.1, h) c.one_of-in-Ending.ensures
+
+pub returns-in-Nothing : goal.returns-in-Nothing
+returns-in-Nothing c = λ σ h. rw c.enum_told-in-Nothing-1.given.1 refl

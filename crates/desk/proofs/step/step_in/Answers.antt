@@ -1,0 +1,141 @@
+-- The stages in their order: each test left behind is a fact of the next refusal. Assumes nothing.
+use Prim.Native.Nat.{◌<◌}
+use mathlib.Core.Path.{◌≡◌, sym, ap, ◌∙◌}
+use mathlib.Core.Bool.{true, false}
+use mathlib.Core.Option.{Option}
+use mathlib.Core.List.{List}
+use native.Mathlib.Omega.{arith}
+use lib.ListN.{length, length-take}
+use borrow.Author.Rules.{rules}
+use borrow.Author.Tests.{not-true, not-false}
+use Rattle.plant.specs.Plant.{Event}
+use Rattle.plant.specs.Reflect.{is_true, is_false}
+use Rattle.sheet.specs.Model.{Sheet, word}
+use Rattle.sheet.specs.ModelTests.{possible}
+use Rattle.sheet.specs.Table.{Entry}
+use Rattle.state.specs.Clocks.{model, Known}
+use Rattle.state.specs.EventByte.{kind_of}
+use Rattle.state.specs.Tell.{told_yes, told_no}
+use Rattle.blocks.specs.Sizes.{block_bytes}
+use Rattle.table.specs.Reading.{good, Says}
+use Rattle.table.specs.Read.{reading}
+use Rattle.table.specs.Replies.{lookup}
+use Rattle.table.specs.declared.row.RowReply.{RowReply}
+use Rattle.table.specs.PlaceLaws.{jobs_number}
+use Rattle.desk.specs.Stepping.{state_in, known, on, names, allows, stays, asked, step_reply}
+use Rattle.desk.specs.FirstBlock.{said, looked}
+use Rattle.desk.specs.StepLaws.{is_known, for_event, nine, eight_unknown, eight, ten, eleven, taken}
+use Rattle.desk.specs.MoveLaws.{job_fits, fits_in}
+use Rattle.desk.specs.declared.desk.Desk.{Desk}
+use Rattle.desk.specs.declared.step.Stepped.{Stepped}
+use Rattle.desk.proofs.step.step_in.Goals as goal
+
+abbrev moved : Desk → Stepped
+moved d = record { reply = record { number = 0; detail = 0 }; desk = d }
+
+-- What is known at the places of the code, each fact said once ----------------------------------------------------------
+
+-- The needs ---------------------------------------------------------------------------------------------------------------
+
+pub bounds-file-3 : goal.bounds-file-3
+bounds-file-3 c = let s = (let says : Says c.args.file.now (good c.requires.0 c.requires.1) = said c.args.file.now (λ i. omega (arith, c.shared_slice_known-1.given i)) c.requires.2 in says) in omega (arith, s.0.whole, s.0.long)
+
+pub returns-then-not-names : goal.returns-then-not-names
+returns-then-not-names c =
+    let n = (let names-is : on false (names ((let sheet : Sheet = c.requires.0 in sheet))) ((let event : Option Event = kind_of c.event_of-e.result in event)) ≡ c.names.result = sym (c.names.ensures ((let sheet : Sheet = c.requires.0 in sheet)) (jobs_number ((let says : Says c.args.file.now (good c.requires.0 c.requires.1) = said c.args.file.now (λ i. omega (arith, c.shared_slice_known-1.given i)) c.requires.2 in says) (first c)))) in names-is) ∙ not-true _ c.if-not-names.true-raw in
+    replies c (c.refused.ensures ∙ nine ((let sheet : Sheet = c.requires.0 in sheet)) ((let rows : List Entry = c.requires.1 in rows)) ((let desk : Desk = c.args.desk in desk)) ((let event : Option Event = kind_of c.event_of-e.result in event)) n)
+
+pub returns-then-not-known : goal.returns-then-not-known
+returns-then-not-known c =
+    let a = ask c in
+    let k = told_no c.known.ensures (not-true _ c.if-not-known.true-raw) in
+    replies a (c.refused-then-not-known.ensures ∙ eight_unknown (sheet a) (rows a) (desk a) (event a) ((let named : on false (names ((let sheet : Sheet = c.requires.0 in sheet) ask)) ((let event : Option Event = kind_of c.event_of-e.result in event) ask) ≡ true = (let names-is : on false (names ((let sheet : Sheet = c.requires.0 in sheet))) ((let event : Option Event = kind_of c.event_of-e.result in event)) ≡ c.names.result = sym (c.names.ensures ((let sheet : Sheet = c.requires.0 in sheet)) (jobs_number ((let says : Says c.args.file.now (good c.requires.0 c.requires.1) = said c.args.file.now (λ i. omega (arith, c.shared_slice_known-1.given i)) c.requires.2 in says) (first c)))) in names-is) ∙ not-false _ c.if-not-names.false-raw in named)) (is_false (is_known _) k))
+
+pub returns-then-told-ne0 : goal.returns-then-told-ne0
+returns-then-told-ne0 c =
+    let a = asks c in
+    let n = (let named : on false (names ((let sheet : Sheet = c.requires.0 in sheet) ask)) ((let event : Option Event = kind_of c.event_of-e.result in event) ask) ≡ true = (let names-is : on false (names ((let sheet : Sheet = c.requires.0 in sheet))) ((let event : Option Event = kind_of c.event_of-e.result in event)) ≡ c.names.result = sym (c.names.ensures ((let sheet : Sheet = c.requires.0 in sheet)) (jobs_number ((let says : Says c.args.file.now (good c.requires.0 c.requires.1) = said c.args.file.now (λ i. omega (arith, c.shared_slice_known-1.given i)) c.requires.2 in says) (first c)))) in names-is) ∙ not-false _ c.if-not-names.false-raw in named) in
+    replies a (c.refused-then-told-ne0.ensures ∙ eight (sheet a) (rows a) (desk a) (row a) ((let its-row : (let row : RowReply = c.args.told in row) asks ≡ lookup (word (state_in ((let desk : Desk = c.args.desk in desk) asks))) ((let rows : List Entry = c.requires.1 in rows) asks) = (start asks).pre.3 (let all_known : Known ((let desk : Desk = c.args.desk in desk) asks).statuses = told_yes c.known.ensures (not-false _ c.if-not-known.false-raw) in all_known) in its-row)) ((let is-all-known : known ((let desk : Desk = c.args.desk in desk) asks).statuses ≡ true = is_true (is_known _) (let all_known : Known ((let desk : Desk = c.args.desk in desk) asks).statuses = told_yes c.known.ensures (not-false _ c.if-not-known.false-raw) in all_known) in is-all-known)) (event a) n c.if-told-ne0.true)
+
+pub slice_bounds-jobs_of-end : goal.slice_bounds-jobs_of-end
+slice_bounds-jobs_of-end c =
+    let a = asks c in
+    let s = says (first a) in
+    omega (arith, s.0.whole, s.0.long, length-take block_bytes (start a).args.file.now)
+
+pub jobs_of-jobs-requires : goal.jobs_of-jobs-requires
+jobs_of-jobs-requires c =
+    let a = asks c in
+    let s = says (first a) in
+    omega (arith, s.0.whole, s.0.long, length-take block_bytes (start a).args.file.now)
+
+pub overflow_cast-n : goal.overflow_cast-n
+overflow_cast-n c =
+    let s = says (first (asks c)) in
+    record { fits = omega (arith, s.1.sheet.few_jobs, jobs_number s) }
+
+pub look_at-requires : goal.look_at-requires
+look_at-requires c =
+    let s = says (first (asks c)) in
+    omega (arith, s.1.sheet.few_jobs, jobs_number s)
+
+pub may-requires : goal.may-requires
+may-requires c =
+    let a = asks c in
+    job_fits (sheet a) (says (first a)).1.sheet.few_jobs a.event_of.result ((let named : on false (names ((let sheet : Sheet = c.requires.0 in sheet) ask)) ((let event : Option Event = kind_of c.event_of-e.result in event) ask) ≡ true = (let names-is : on false (names ((let sheet : Sheet = c.requires.0 in sheet))) ((let event : Option Event = kind_of c.event_of-e.result in event)) ≡ c.names.result = sym (c.names.ensures ((let sheet : Sheet = c.requires.0 in sheet)) (jobs_number ((let says : Says c.args.file.now (good c.requires.0 c.requires.1) = said c.args.file.now (λ i. omega (arith, c.shared_slice_known-1.given i)) c.requires.2 in says) (first c)))) in names-is) ∙ not-false _ c.if-not-names.false-raw in named))
+
+pub returns-then-not-may : goal.returns-then-not-may
+returns-then-not-may c =
+    let y = knows c in
+    let a = asks y in
+    let z = (found c).if3.false in
+    let n = named y.before.before in
+    let p = (let possible-is : on false (possible ((let sheet : Sheet = c.requires.0 in sheet) asked_of) (state_in ((let desk : Desk = c.args.desk in desk) asked_of))) ((let event : Option Event = kind_of c.event_of-e.result in event) asked_of) ≡ c.may.result = let q = c.state_in-s in
+    let l = looked ((let says : Says c.args.file.now (good c.requires.0 c.requires.1) = said c.args.file.now (λ i. omega (arith, c.shared_slice_known-1.given i)) c.requires.2 in says) (first asked_of)) (model q.result) c.jobs_of-jobs.ensures c.look_at.ensures in
+    rw q.ensures at (sym (c.may.ensures ((let sheet : Sheet = c.requires.0 in sheet) asked_of) q.result l)) in possible-is) ∙ not-true _ c.if-not-may.true-raw in
+    replies a (c.refused-then-not-may.ensures ∙ ten (sheet a) (rows a) (desk a) (row a) (its-row y) (is-all-known y) z (event a) n p)
+
+pub allowed-requires : goal.allowed-requires
+allowed-requires c =
+    let y = knows c in
+    let a = asks y in
+    job_fits (sheet a) (says (first a)).1.sheet.few_jobs a.event_of.result (named y.before.before)
+
+pub returns-then-not-allowed : goal.returns-then-not-allowed
+returns-then-not-allowed c =
+    let y = knows c in
+    let a = asks y in
+    let z = (found c).if3.false in
+    let n = named y.before.before in
+    let w = sym c.allowed.ensures ∙ not-true _ c.if-not-allowed.true-raw in
+    replies a (c.refused-then-not-allowed.ensures ∙ eleven (sheet a) (rows a) (desk a) (row a) (its-row y) (is-all-known y) z (event a) n ((let can-be : on false (possible ((let sheet : Sheet = c.requires.0 in sheet) may-be) (state_in ((let desk : Desk = c.args.desk in desk) may-be))) ((let event : Option Event = kind_of c.event_of-e.result in event) may-be) ≡ true = (let possible-is : on false (possible ((let sheet : Sheet = c.requires.0 in sheet) asked_of) (state_in ((let desk : Desk = c.args.desk in desk) asked_of))) ((let event : Option Event = kind_of c.event_of-e.result in event) asked_of) ≡ c.may.result = let q = c.state_in-s in
+    let l = looked ((let says : Says c.args.file.now (good c.requires.0 c.requires.1) = said c.args.file.now (λ i. omega (arith, c.shared_slice_known-1.given i)) c.requires.2 in says) (first asked_of)) (model q.result) c.jobs_of-jobs.ensures c.look_at.ensures in
+    rw q.ensures at (sym (c.may.ensures ((let sheet : Sheet = c.requires.0 in sheet) asked_of) q.result l)) in possible-is) ∙ not-false _ c.if-not-may.false-raw in can-be)) w)
+
+pub after-requires : goal.after-requires
+after-requires c =
+    let q = c.state_in-s in
+    let y = knows c in
+    let a = asks y in
+    let s = says (first a) in
+    let z = (found c).if3.false in
+    let n = named y.before.before in (
+      omega (arith, s.1.sheet.few_jobs, jobs_number s),
+      fits_in (sheet a) (rows a) s.1.sheet s.1.form (desk a) (desk-fits (start a)) (all_known y)
+          (row a) (its-row y) z a.event_of.result q.result q.ensures n ((let can-be : on false (possible ((let sheet : Sheet = c.requires.0 in sheet) may-be) (state_in ((let desk : Desk = c.args.desk in desk) may-be))) ((let event : Option Event = kind_of c.event_of-e.result in event) may-be) ≡ true = (let possible-is : on false (possible ((let sheet : Sheet = c.requires.0 in sheet) asked_of) (state_in ((let desk : Desk = c.args.desk in desk) asked_of))) ((let event : Option Event = kind_of c.event_of-e.result in event) asked_of) ≡ c.may.result = let q = c.state_in-s in
+    let l = looked ((let says : Says c.args.file.now (good c.requires.0 c.requires.1) = said c.args.file.now (λ i. omega (arith, c.shared_slice_known-1.given i)) c.requires.2 in says) (first asked_of)) (model q.result) c.jobs_of-jobs.ensures c.look_at.ensures in
+    rw q.ensures at (sym (c.may.ensures ((let sheet : Sheet = c.requires.0 in sheet) asked_of) q.result l)) in possible-is) ∙ not-false _ c.if-not-may.false-raw in can-be)) ((let is-allowed : on false (allows ((let row : RowReply = c.args.told in row) is-asked).starts ((let row : RowReply = c.args.told in row) is-asked).tick) ((let event : Option Event = kind_of c.event_of-e.result in event) is-asked) ≡ true = sym c.allowed.ensures ∙ not-false _ c.if-not-allowed.false-raw in is-allowed)),
+    )
+
+pub returns : goal.returns
+returns c =
+    let q = c.state_in-s in
+    let y = knows c in
+    let a = asks y in
+    let z = (found c).if3.false in
+    let n = named y.before.before in
+    let g = rw q.ensures at (c.after.ensures (sheet a) (jobs_number (says (first a)))) in
+    replies a (ap moved c.desk_of-next.ensures
+    ∙ taken (sheet a) (rows a) (desk a) (row a) (its-row y) (is-all-known y) z (event a) n ((let can-be : on false (possible ((let sheet : Sheet = c.requires.0 in sheet) may-be) (state_in ((let desk : Desk = c.args.desk in desk) may-be))) ((let event : Option Event = kind_of c.event_of-e.result in event) may-be) ≡ true = (let possible-is : on false (possible ((let sheet : Sheet = c.requires.0 in sheet) asked_of) (state_in ((let desk : Desk = c.args.desk in desk) asked_of))) ((let event : Option Event = kind_of c.event_of-e.result in event) asked_of) ≡ c.may.result = let q = c.state_in-s in
+    let l = looked ((let says : Says c.args.file.now (good c.requires.0 c.requires.1) = said c.args.file.now (λ i. omega (arith, c.shared_slice_known-1.given i)) c.requires.2 in says) (first asked_of)) (model q.result) c.jobs_of-jobs.ensures c.look_at.ensures in
+    rw q.ensures at (sym (c.may.ensures ((let sheet : Sheet = c.requires.0 in sheet) asked_of) q.result l)) in possible-is) ∙ not-false _ c.if-not-may.false-raw in can-be)) ((let is-allowed : on false (allows ((let row : RowReply = c.args.told in row) is-asked).starts ((let row : RowReply = c.args.told in row) is-asked).tick) ((let event : Option Event = kind_of c.event_of-e.result in event) is-asked) ≡ true = sym c.allowed.ensures ∙ not-false _ c.if-not-allowed.false-raw in is-allowed)) _ g)

@@ -1,0 +1,7 @@
+-- `slot_at`: the slot of the row that its key and its note make. Assumes nothing.
+use borrow.Author.Rules.{rules}
+use mathlib.Core.Path.{refl}
+use Rattle.filing.proofs.slot_at.Goals as goal
+
+pub returns : goal.returns
+returns c = rw (c.row_slot.ensures, c.note_at.ensures, c.key_at-k.ensures, c.wide-p.ensures) refl

@@ -1,0 +1,16 @@
+-- `write_rows`: before each turn the header and the slots so far stand in front. Assumes nothing.
+use Prim.Native.Nat.{◌+◌, ◌-◌}
+use native.Mathlib.Omega.{arith}
+use mathlib.Core.Path.{refl}
+use lib.ListN.{get_or}
+use Rattle.blocks.specs.File.{row_slot}
+use Rattle.writer.specs.WriteLaws.{Filled, filled_none, filled_more, filled_all}
+use Rattle.filing.specs.Filing.{entry_at}
+use borrow.Author.Rules.{rules}
+use Rattle.filing.proofs.write_rows.Given as goal
+
+abbrev pub invariant-loop-s : goal.invariant-loop-s
+invariant-loop-s l = Filled row_slot l.l.total l.total l.l.order l.l.initial.part (λ i. entry_at l.order (get_or l.l.l.l.initial.part (l.l.l.initial.part + i) 0)) l.part l.s
+
+abbrev pub decreases-loop-s : goal.decreases-loop-s
+decreases-loop-s l = l.l.initial.part - l.s

@@ -1,0 +1,16 @@
+-- Each job passed is of good form. Assumes nothing.
+use Prim.Native.Nat.{ℕ, ◌-◌, ◌≤◌, ◌<◌}
+use native.Mathlib.Omega.{arith}
+use borrow.Author.Rules.{rules}
+use borrow.Author.Count.{below_more}
+use borrow.Author.Tests.{not-true, not-false}
+use Rattle.sheet.specs.Model.{GoodJob}
+use Rattle.blocks.specs.Fields.{slot_at, job_from}
+use Rattle.state.specs.Tell.{tell_yes, tell_no, told_yes, told_no}
+use Rattle.form.proofs.block.jobs_good.Given as goal
+
+abbrev pub invariant-loop-s : goal.invariant-loop-s
+invariant-loop-s l = (l.s ≤ l.many) × ((k : ℕ) → k < l.s → GoodJob (job_from l.block (slot_at k)))
+
+abbrev pub decreases-loop-s : goal.decreases-loop-s
+decreases-loop-s l = l.many - l.s

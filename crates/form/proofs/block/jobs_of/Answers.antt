@@ -1,0 +1,9 @@
+-- Eight slots of four numbers each, in their places. Assumes nothing.
+use borrow.Author.Rules.{rules}
+use Rattle.blocks.specs.Tab.{tab}
+use Rattle.form.specs.BlockTest.{fours}
+use Rattle.form.proofs.block.jobs_of.Goals as goal
+
+pub returns : goal.returns
+unfolding fours tab
+returns c = cc

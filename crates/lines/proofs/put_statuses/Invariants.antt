@@ -1,0 +1,18 @@
+-- `put_statuses`: before each turn the statuses passed are printed. Assumes nothing.
+use Prim.Native.Nat.{◌-◌, ◌≤◌}
+use native.Mathlib.Omega.{arith}
+use mathlib.Core.Path.{◌≡◌}
+use mathlib.Core.List.{map}
+use lib.ListN.{take}
+use Rattle.lines.specs.Digits.{digit}
+use Rattle.lines.specs.LineLaws.{statuses_more, statuses_length}
+use Rattle.lines.specs.Printed.{Printed}
+use Rattle.lines.specs.PrintedLaws.{printed_none, printed_length, printed_then}
+use borrow.Author.Rules.{rules}
+use Rattle.lines.proofs.put_statuses.Given as goal
+
+abbrev pub invariant-loop-i : goal.invariant-loop-i
+invariant-loop-i l = (l.i ≤ l.statuses) × Printed l.l.l.statuses l.l.statuses (map digit (take l.i l.l.initial.out)) l.next l.out
+
+abbrev pub decreases-loop-i : goal.decreases-loop-i
+decreases-loop-i l = l.statuses - l.i

@@ -1,0 +1,11 @@
+-- The whole file says one thing only, and the reply is the reply to that. Assumes nothing.
+use native.Mathlib.Omega.{arith}
+use borrow.Author.Rules.{rules}
+use Rattle.table.specs.ReadForLaws.{whole_answer}
+use Rattle.table.specs.Replies.{row_reply}
+use Rattle.table.proofs.row.row.Goals as goal
+
+pub returns : goal.returns
+returns c =
+    let a = c.args in
+    whole_answer a.file.now (λ i. omega (arith, c.shared_slice_known-1.given i)) (row_reply a.word) _ c.row_read.ensures

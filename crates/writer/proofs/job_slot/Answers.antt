@@ -1,0 +1,6 @@
+-- `job_slot`: each byte is the slot's. Assumes nothing.
+use borrow.Author.Rules.{rules}
+use Rattle.writer.proofs.job_slot.Goals as goal
+
+pub returns : goal.returns
+returns c = cc
