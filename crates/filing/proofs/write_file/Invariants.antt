@@ -21,8 +21,8 @@ use Rattle.filing.proofs.write_file.Given as goal
 
 abbrev pub invariant-loop-b : goal.invariant-loop-b
 invariant-loop-b l =
-    (1 ≤ l.b) × (l.b ≤ l.l.l.initial.out) × (length l.out ≡ length l.l.work) × ((σ : Sheet) (old : List ℕ) → length σ ≡ l.work
-    → l.l.work ≡ written l.l.l.initial.out σ (rows l.order l.l.l.l.l.initial.out l.l.l.l.initial.out) 1 ++ drop block_bytes old → l.out ≡ written l.l.l.initial.out σ (rows l.order l.l.l.l.l.initial.out l.l.l.l.initial.out) l.b ++ drop (block_bytes * l.b) old)
+    (1 ≤ l.b) × (l.b ≤ l.total) × (length l.out ≡ length l.initial.out) × ((σ : Sheet) (old : List ℕ) → length σ ≡ l.n
+    → l.initial.out ≡ written l.total σ (rows l.work l.order l.count) 1 ++ drop block_bytes old → l.out ≡ written l.total σ (rows l.work l.order l.count) l.b ++ drop (block_bytes * l.b) old)
 
 abbrev pub decreases-loop-b : goal.decreases-loop-b
-decreases-loop-b l = l.l.l.initial.out - l.b
+decreases-loop-b l = l.total - l.b

@@ -10,7 +10,7 @@ use borrow.Author.Rules.{rules}
 use Rattle.filing.proofs.write_rows.Given as goal
 
 abbrev pub invariant-loop-s : goal.invariant-loop-s
-invariant-loop-s l = Filled row_slot l.l.total l.total l.l.order l.l.initial.part (λ i. entry_at l.order (get_or l.l.l.l.initial.part (l.l.l.initial.part + i) 0)) l.part l.s
+invariant-loop-s l = Filled row_slot l.n l.k l.total l.used (λ i. entry_at l.work (get_or l.order (l.from + i) 0)) l.part l.s
 
 abbrev pub decreases-loop-s : goal.decreases-loop-s
-decreases-loop-s l = l.l.initial.part - l.s
+decreases-loop-s l = l.used - l.s

@@ -10,7 +10,7 @@ use borrow.Author.Rules.{rules}
 use Rattle.lines.proofs.put_jobs.Given as goal
 
 abbrev pub invariant-loop-k : goal.invariant-loop-k
-invariant-loop-k l = (l.k ≤ l.initial.out) × Printed l.l.starts l.starts (jobs_text l.k l.l.initial.out) l.next l.out
+invariant-loop-k l = (l.k ≤ l.n) × Printed l.initial.out l.at (jobs_text l.k l.starts) l.next l.out
 
 abbrev pub decreases-loop-k : goal.decreases-loop-k
-decreases-loop-k l = l.initial.out - l.k
+decreases-loop-k l = l.n - l.k

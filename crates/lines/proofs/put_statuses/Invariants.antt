@@ -12,7 +12,7 @@ use borrow.Author.Rules.{rules}
 use Rattle.lines.proofs.put_statuses.Given as goal
 
 abbrev pub invariant-loop-i : goal.invariant-loop-i
-invariant-loop-i l = (l.i ≤ l.statuses) × Printed l.l.l.statuses l.l.statuses (map digit (take l.i l.l.initial.out)) l.next l.out
+invariant-loop-i l = (l.i ≤ l.n) × Printed l.initial.out l.at (map digit (take l.i l.statuses)) l.next l.out
 
 abbrev pub decreases-loop-i : goal.decreases-loop-i
-decreases-loop-i l = l.statuses - l.i
+decreases-loop-i l = l.n - l.i

@@ -12,7 +12,7 @@ use borrow.Author.Rules.{rules}
 use Rattle.writer.proofs.write_jobs.Given as goal
 
 abbrev pub invariant-loop-s : goal.invariant-loop-s
-invariant-loop-s l = Filled job_slot l.total 0 l.l.l.initial.part l.total (λ i. job_of (get_or l.l.initial.part i [])) l.part l.s
+invariant-loop-s l = Filled job_slot l.n 0 l.total l.n (λ i. job_of (get_or l.jobs i [])) l.part l.s
 
 abbrev pub decreases-loop-s : goal.decreases-loop-s
-decreases-loop-s l = l.total - l.s
+decreases-loop-s l = l.n - l.s

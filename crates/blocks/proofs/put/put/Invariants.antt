@@ -9,7 +9,7 @@ use borrow.Author.Rules.{rules}
 use Rattle.blocks.proofs.put.put.Given as goal
 
 abbrev pub invariant-loop-i : goal.invariant-loop-i
-invariant-loop-i l = (l.i ≤ length l.initial.out) × ((length l.out ≡ length l.l.bytes) × (l.out ≡ paste l.l.bytes l.bytes l.initial.out l.i))
+invariant-loop-i l = (l.i ≤ length l.bytes) × ((length l.out ≡ length l.initial.out) × (l.out ≡ paste l.initial.out l.at l.bytes l.i))
 
 abbrev pub decreases-loop-i : goal.decreases-loop-i
-decreases-loop-i l = length l.initial.out - l.i
+decreases-loop-i l = length l.bytes - l.i

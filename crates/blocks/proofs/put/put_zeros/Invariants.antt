@@ -9,7 +9,7 @@ use borrow.Author.Rules.{rules}
 use Rattle.blocks.proofs.put.put_zeros.Given as goal
 
 abbrev pub invariant-loop-p : goal.invariant-loop-p
-invariant-loop-p l = (l.end ≤ l.p) × ((l.p ≤ l.initial.out) × ((length l.out ≡ length l.l.end) × (l.out ≡ paste l.l.end l.end (replicate (l.initial.out - l.end) 0) (l.p - l.end))))
+invariant-loop-p l = (l.at ≤ l.p) × ((l.p ≤ l.end) × ((length l.out ≡ length l.initial.out) × (l.out ≡ paste l.initial.out l.at (replicate (l.end - l.at) 0) (l.p - l.at))))
 
 abbrev pub decreases-loop-p : goal.decreases-loop-p
-decreases-loop-p l = l.initial.out - l.p
+decreases-loop-p l = l.end - l.p

@@ -11,7 +11,7 @@ use borrow.Author.Rules.{rules}
 use Rattle.printing.proofs.listing.put_rows.Given as goal
 
 abbrev pub invariant-loop-i : goal.invariant-loop-i
-invariant-loop-i l = (l.i ≤ l.initial.out) × ((l.next ≤ l.file + line_bytes * l.i) × Printed l.l.file l.file (lines_of l.count l.l.count l.i) l.next l.out)
+invariant-loop-i l = (l.i ≤ l.count) × ((l.next ≤ l.at + line_bytes * l.i) × Printed l.initial.out l.at (lines_of l.n l.file l.i) l.next l.out)
 
 abbrev pub decreases-loop-i : goal.decreases-loop-i
-decreases-loop-i l = l.initial.out - l.i
+decreases-loop-i l = l.count - l.i
