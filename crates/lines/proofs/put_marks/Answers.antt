@@ -19,5 +19,5 @@ put-requires c =
 pub returns : goal.returns
 returns c =
     printed_then c.put_starts-at.ensures
-    (printed_then c.put.ensures
+    (printed_then c.put-at.ensures
     (printed_then c.put_tick-at.ensures c.put.ensures))

@@ -22,7 +22,7 @@ put-requires c =
 
 pub returns : goal.returns
 returns c =
-    printed_then c.put.ensures
+    printed_then c.put-at.ensures
     (printed_then c.put_number-at.ensures
     (printed_then c.put-at-2.ensures
     (printed_then c.put_number-at-2.ensures c.put.ensures)))

@@ -46,7 +46,7 @@ returns c =
     let a = c.args in
     subst (λ (q : State). Printed a.out.now a.at (state_part a.n q) c.put.result c.put.new.0) c.state_of-s.ensures
     (printed_then c.put_number-at.ensures
-    (printed_then c.put.ensures
+    (printed_then c.put-at.ensures
     (printed_then c.put_number-at-2.ensures
     (printed_then c.put-at-2.ensures
     (printed_then c.put_statuses-at.ensures c.put.ensures)))))

@@ -25,4 +25,4 @@ pub returns : goal.returns
 returns c =
     let a = c.args in
     let l = c.loop-s in
-    rw (sheet_tab a.t4 a.n (search rules) (search rules)) (filled_all l.invariant (omega arith) c.seal.ensures)
+    rw (sheet_tab a.jobs a.n (search rules) (search rules)) (filled_all l.invariant (omega arith) c.seal.ensures)

@@ -25,12 +25,12 @@ returns-then-s-eq0 c =
     })
 
 pub returns-then-word-read32 : goal.returns-then-word-read32
-returns-then-word-read32 c = tell_no (λ p. omega (arith, p.above (omega arith), c.read32.ensures, c.read32.ensures))
+returns-then-word-read32 c = tell_no (λ p. omega (arith, p.above (omega arith), c.read32.ensures, c.read32-word.ensures))
 
 pub returns : goal.returns
 returns c =
     let f = told_yes c.row_good.ensures (not-false _ c.if-not-row_good.false-raw) in
-    let w = c.read32.ensures in
+    let w = c.read32-word.ensures in
     tell_yes
     (record {
       zero_two = (c.if-block-at-ne0.false, c.if-block-at-ne0-2.false);

@@ -12,23 +12,23 @@ overflow_add-result c = record { fits = omega (arith, one_bit c.args.opens) }
 pub returns-then-s-eq1 : goal.returns-then-s-eq1
 returns-then-s-eq1 c =
     let a = c.args in
-    rw (c.wide.ensures.0, c.wide.ensures.0) (fits_ready (job_of a.t1) a.now a.elapsed.0 a.s a.marked a.opens c.if-s-eq1.true)
+    rw (c.wide-a.ensures.0, c.wide.ensures.0) (fits_ready (job_of a.job) a.now a.elapsed.0 a.s a.marked a.opens c.if-s-eq1.true)
 
 pub returns-then-marked : goal.returns-then-marked
 returns-then-marked c =
     let a = c.args in
-    tell_no (fits_marked (job_of a.t1) a.now a.elapsed.0 a.s a.marked a.opens c.if-s-eq1.false c.if-marked.true)
+    tell_no (fits_marked (job_of a.job) a.now a.elapsed.0 a.s a.marked a.opens c.if-s-eq1.false c.if-marked.true)
 
 pub returns-then-s-eq0 : goal.returns-then-s-eq0
 returns-then-s-eq0 c =
     let a = c.args in
-    rw c.wide-a.ensures.0 (fits_waiting (job_of a.t1) a.now a.elapsed.0 a.s a.marked a.opens c.if-marked.false c.if-s-eq0.true)
+    rw c.wide-a.ensures.0 (fits_waiting (job_of a.job) a.now a.elapsed.0 a.s a.marked a.opens c.if-marked.false c.if-s-eq0.true)
 
 pub returns-then-s-eq3 : goal.returns-then-s-eq3
 returns-then-s-eq3 c =
     let a = c.args in
     rw (c.wide-a.ensures.0, c.wide-then-s-eq3.ensures.0)
-    (fits_done (job_of a.t1) a.now a.elapsed.0 a.s a.marked a.opens c.if-marked.false c.if-s-eq3.true)
+    (fits_done (job_of a.job) a.now a.elapsed.0 a.s a.marked a.opens c.if-marked.false c.if-s-eq3.true)
 
 pub overflow_add-result-2 : goal.overflow_add-result-2
 overflow_add-result-2 c = record { fits = omega (arith, one_bit c.args.opens) }
@@ -37,4 +37,4 @@ pub returns : goal.returns
 returns c =
     let a = c.args in
     rw (c.wide-a.ensures.0, c.wide-2.ensures.0, c.wide-3.ensures.0)
-    (fits_running (job_of a.t1) a.now a.elapsed.0 a.s a.marked a.opens c.if-marked.false (omega arith))
+    (fits_running (job_of a.job) a.now a.elapsed.0 a.s a.marked a.opens c.if-marked.false (omega arith))

@@ -5,4 +5,4 @@ use Rattle.sheet.specs.Arrays.{job_of}
 use Rattle.form.proofs.row.spends.Goals as goal
 
 pub returns : goal.returns
-returns c = let a = c.args in rw c.wide.ensures.0 (is_and (is_eq a.s 2) (is_eq a.elapsed.0 (job_of a.t1).most))
+returns c = let a = c.args in rw c.wide.ensures.0 (is_and (is_eq a.s 2) (is_eq a.elapsed.0 (job_of a.job).most))
