@@ -28,9 +28,9 @@ loop-b-init c = (search rules, search rules, refl, λ σ old l e. e)
 
 pub write_rows-requires : goal.write_rows-requires
 write_rows-requires c =
-    let x = c.requires.0.1 in
+    let x = c.requires.n_le_most_jobs.1 in
     let u = c.used_by-used.ensures.0 in
-    (search rules, (omega (arith, u, x.room), x.words, λ i h. place_small _ _ _ 0 x i (omega (arith, u, h))))
+    record { part_len = search rules; used_bound = (omega (arith, u, x.room), x.words, λ i h. place_small _ _ _ 0 x i (omega (arith, u, h))) }
 
 pub loop-b-preserved : goal.loop-b-preserved
 loop-b-preserved c =
@@ -61,4 +61,4 @@ returns c =
     let f = block_first t.result σ R (omega arith) a.out.now w.new.0 _ j refl in
     rw (e, t.ensures) at (l.invariant.3 σ a.out.now n f)
     ∙ ap (λ (w : List ℕ). w ++ drop (block_bytes * blocks_of a.count) a.out.now)
-    (all_filed a.work.now a.order.now a.count σ (omega (arith, c.requires.0.1.room, c.requires.0.1.halves)))
+    (all_filed a.work.now a.order.now a.count σ (omega (arith, c.requires.n_le_most_jobs.1.room, c.requires.n_le_most_jobs.1.halves)))

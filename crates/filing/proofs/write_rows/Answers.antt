@@ -11,11 +11,11 @@ use Rattle.filing.proofs.write_rows.Goals as goal
 
 pub loop-s-init : goal.loop-s-init
 loop-s-init c =
-    filled_none c.args.part.now c.requires.0.0 (rw c.header_of-head.ensures at c.put.ensures)
+    filled_none c.args.part.now c.requires.part_len.0 (rw c.header_of-head.ensures at c.put.ensures)
 
 pub slot_at-slot-requires : goal.slot_at-slot-requires
 slot_at-slot-requires c =
-    (omega arith, (c.requires.1.2 (c.args.from + c.loop-s.s) (omega arith), c.requires.1.1))
+    (omega arith, (c.requires.used_bound.2 (c.args.from + c.loop-s.s) (omega arith), c.requires.used_bound.1))
 
 pub loop-s-preserved : goal.loop-s-preserved
 loop-s-preserved c =

@@ -25,7 +25,7 @@ put_rows-requires c =
     let n = jobs_number s in
     let k = jobs_few s in
     let l = header_length (get_or c.args.file.now 3 0) r.result (omega arith) (omega arith) in
-    ((omega arith, (omega arith, omega (arith, h.behind, l, printed_length h, c.requires.1))), λ i d. places_end s i (omega arith))
+    record { n_le_most_jobs = (omega arith, (omega arith, omega (arith, h.behind, l, printed_length h, c.requires.1))); by_index = λ i d. places_end s i (omega arith) }
 
 pub returns : goal.returns
 returns c = λ σ rows s.

@@ -33,7 +33,7 @@ loop-passed-init c =
     (omega (arith, c.requires.0.long), past_first c.args.file.now c.args.word c.requires.0 (λ i. omega (arith, c.shared_slice_known-1.given i)) c.requires.1)
 
 pub rows_good-requires : goal.rows_good-requires
-rows_good-requires c = let o = c.requires in ((omega arith, (omega arith, (o.0.short, o.0.whole))), o.1.few)
+rows_good-requires c = let o = c.requires in record { le_b = (omega arith, (omega arith, (o.0.short, o.0.whole))); n_le_most_jobs = o.1.few }
 
 pub overflow_cast-result : goal.overflow_cast-result
 overflow_cast-result c = omega (arith, ((let opens : Opens (let file : List ℕ = c.args.file.now in file) = c.requires in opens)).0.short, (let within : (let b : ℕ = c.loop-passed.passed + 1 in b) < total (let file : List ℕ = c.args.file.now in file) = omega arith in within))
