@@ -14,12 +14,11 @@ pub put-requires-in_default : goal.put-requires-in_default
 put-requires-in_default c = omega (arith, tick_length c.args.tick)
 
 pub returns-in-0 : goal.returns-in-0
-returns-in-0 c = rw c.in-0.keys1 c.put.ensures
+returns-in-0 c = rw c.in-0.is c.put.ensures
 
 pub returns-in-1 : goal.returns-in-1
-returns-in-1 c = rw c.in-1.keys2 c.put-in-1.ensures
+returns-in-1 c = rw c.in-1.is c.put-in-1.ensures
 
 pub returns-in_default : goal.returns-in_default
 returns-in_default c =
-    let m = c.in_default.rest in
-    rw (else_held c.args.tick m.0.1 m.1) c.put-in_default.ensures
+    rw (else_held c.args.tick (λ e. omega arith) (λ e. omega arith)) c.put-in_default.ensures
