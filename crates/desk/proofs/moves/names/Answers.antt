@@ -7,7 +7,7 @@ pub returns-in-Tick : goal.returns-in-Tick
 returns-in-Tick c = λ σ h. rw c.enum_told-1.given.1 refl
 
 pub returns-in-Arrival : goal.returns-in-Arrival
-returns-in-Arrival c = λ σ h. rw (c.e-1.given.1, h) c.one_of_lem.ensures
+returns-in-Arrival c = λ σ h. rw (c.e-1.given.1, h) c.one_of.ensures
 
 pub returns-in-Start : goal.returns-in-Start
 returns-in-Start c = λ σ h. rw (c.e-in-Start-1.given.1, h) c.one_of-in-Start.ensures

@@ -38,104 +38,169 @@ moved d = record { reply = record { number = 0; detail = 0 }; desk = d }
 -- The needs ---------------------------------------------------------------------------------------------------------------
 
 pub bounds-file-3 : goal.bounds-file-3
-bounds-file-3 c = let s = (let says : Says c.args.file.now (good c.requires.0 c.requires.1) = said c.args.file.now (λ i. omega (arith, c.shared_slice_known-1.given i)) c.requires.2 in says) in omega (arith, s.0.whole, s.0.long)
+bounds-file-3 c =
+    let says : Says c.args.file.now (good c.requires.0 c.requires.1) = said c.args.file.now (λ i. omega (arith, c.shared_slice_known-1.given i)) c.requires.2 in
+    let s = says in omega (arith, s.0.whole, s.0.long)
 
 pub returns-then-not-names : goal.returns-then-not-names
 returns-then-not-names c =
-    let n = (let names-is : on false (names ((let sheet : Sheet = c.requires.0 in sheet))) ((let event : Option Event = kind_of c.event_of-e.result in event)) ≡ c.names.result = sym (c.names.ensures ((let sheet : Sheet = c.requires.0 in sheet)) (jobs_number ((let says : Says c.args.file.now (good c.requires.0 c.requires.1) = said c.args.file.now (λ i. omega (arith, c.shared_slice_known-1.given i)) c.requires.2 in says) (first c)))) in names-is) ∙ not-true _ c.if-not-names.true-raw in
-    replies c (c.refused.ensures ∙ nine ((let sheet : Sheet = c.requires.0 in sheet)) ((let rows : List Entry = c.requires.1 in rows)) ((let desk : Desk = c.args.desk in desk)) ((let event : Option Event = kind_of c.event_of-e.result in event)) n)
+    let says : Says c.args.file.now (good c.requires.0 c.requires.1) = said c.args.file.now (λ i. omega (arith, c.shared_slice_known-1.given i)) c.requires.2 in
+    let sheet : Sheet = c.requires.0 in
+    let rows : List Entry = c.requires.1 in
+    let desk : Desk = c.args.desk in
+    let event : Option Event = kind_of c.event_of-e.result in
+    let names-is : on false (names sheet) event ≡ c.names.result = sym (c.names.ensures sheet (jobs_number (says (c)))) in
+    let n = names-is ∙ not-true _ c.if-not-names.true-raw in
+    replies c (c.refused.ensures ∙ nine sheet rows desk event n)
 
 pub returns-then-not-known : goal.returns-then-not-known
 returns-then-not-known c =
+    let says : Says c.args.file.now (good c.requires.0 c.requires.1) = said c.args.file.now (λ i. omega (arith, c.shared_slice_known-1.given i)) c.requires.2 in
+    let sheet : Sheet = c.requires.0 in
+    let event : Option Event = kind_of c.event_of-e.result in
+    let names-is : on false (names sheet) event ≡ c.names.result = sym (c.names.ensures sheet (jobs_number (says (c)))) in
+    let named : on false (names (sheet ask)) (event ask) ≡ true = names-is ∙ not-false _ c.if-not-names.false-raw in
     let a = ask c in
     let k = told_no c.known.ensures (not-true _ c.if-not-known.true-raw) in
-    replies a (c.refused-then-not-known.ensures ∙ eight_unknown (sheet a) (rows a) (desk a) (event a) ((let named : on false (names ((let sheet : Sheet = c.requires.0 in sheet) ask)) ((let event : Option Event = kind_of c.event_of-e.result in event) ask) ≡ true = (let names-is : on false (names ((let sheet : Sheet = c.requires.0 in sheet))) ((let event : Option Event = kind_of c.event_of-e.result in event)) ≡ c.names.result = sym (c.names.ensures ((let sheet : Sheet = c.requires.0 in sheet)) (jobs_number ((let says : Says c.args.file.now (good c.requires.0 c.requires.1) = said c.args.file.now (λ i. omega (arith, c.shared_slice_known-1.given i)) c.requires.2 in says) (first c)))) in names-is) ∙ not-false _ c.if-not-names.false-raw in named)) (is_false (is_known _) k))
+    replies a (c.refused-then-not-known.ensures ∙ eight_unknown (sheet a) (rows a) (desk a) (event a) named (is_false (is_known _) k))
 
 pub returns-then-told-ne0 : goal.returns-then-told-ne0
 returns-then-told-ne0 c =
+    let says : Says c.args.file.now (good c.requires.0 c.requires.1) = said c.args.file.now (λ i. omega (arith, c.shared_slice_known-1.given i)) c.requires.2 in
+    let sheet : Sheet = c.requires.0 in
+    let rows : List Entry = c.requires.1 in
+    let desk : Desk = c.args.desk in
+    let row : RowReply = c.args.told in
+    let event : Option Event = kind_of c.event_of-e.result in
+    let names-is : on false (names sheet) event ≡ c.names.result = sym (c.names.ensures sheet (jobs_number (says (c)))) in
+    let named : on false (names (sheet ask)) (event ask) ≡ true = names-is ∙ not-false _ c.if-not-names.false-raw in
+    let all_known : Known (desk asks).statuses = told_yes c.known.ensures (not-false _ c.if-not-known.false-raw) in
+    let is-all-known : known (desk asks).statuses ≡ true = is_true (is_known _) all_known in
+    let its-row : row asks ≡ lookup (word (state_in (desk asks))) (rows asks) = (start asks).pre.3 all_known in
     let a = asks c in
-    let n = (let named : on false (names ((let sheet : Sheet = c.requires.0 in sheet) ask)) ((let event : Option Event = kind_of c.event_of-e.result in event) ask) ≡ true = (let names-is : on false (names ((let sheet : Sheet = c.requires.0 in sheet))) ((let event : Option Event = kind_of c.event_of-e.result in event)) ≡ c.names.result = sym (c.names.ensures ((let sheet : Sheet = c.requires.0 in sheet)) (jobs_number ((let says : Says c.args.file.now (good c.requires.0 c.requires.1) = said c.args.file.now (λ i. omega (arith, c.shared_slice_known-1.given i)) c.requires.2 in says) (first c)))) in names-is) ∙ not-false _ c.if-not-names.false-raw in named) in
-    replies a (c.refused-then-told-ne0.ensures ∙ eight (sheet a) (rows a) (desk a) (row a) ((let its-row : (let row : RowReply = c.args.told in row) asks ≡ lookup (word (state_in ((let desk : Desk = c.args.desk in desk) asks))) ((let rows : List Entry = c.requires.1 in rows) asks) = (start asks).pre.3 (let all_known : Known ((let desk : Desk = c.args.desk in desk) asks).statuses = told_yes c.known.ensures (not-false _ c.if-not-known.false-raw) in all_known) in its-row)) ((let is-all-known : known ((let desk : Desk = c.args.desk in desk) asks).statuses ≡ true = is_true (is_known _) (let all_known : Known ((let desk : Desk = c.args.desk in desk) asks).statuses = told_yes c.known.ensures (not-false _ c.if-not-known.false-raw) in all_known) in is-all-known)) (event a) n c.if-told-ne0.true)
+    let n = named in
+    replies a (c.refused-then-told-ne0.ensures ∙ eight (sheet a) (rows a) (desk a) (row a) its-row is-all-known (event a) n c.if-told-ne0.true)
 
 pub slice_bounds-jobs_of-end : goal.slice_bounds-jobs_of-end
 slice_bounds-jobs_of-end c =
-    let a = asks c in
+    let a = c in
     let s = says (first a) in
     omega (arith, s.0.whole, s.0.long, length-take block_bytes (start a).args.file.now)
 
 pub jobs_of-jobs-requires : goal.jobs_of-jobs-requires
 jobs_of-jobs-requires c =
-    let a = asks c in
+    let a = c in
     let s = says (first a) in
     omega (arith, s.0.whole, s.0.long, length-take block_bytes (start a).args.file.now)
 
 pub overflow_cast-n : goal.overflow_cast-n
 overflow_cast-n c =
-    let s = says (first (asks c)) in
+    let s = says (first (c)) in
     record { fits = omega (arith, s.1.sheet.few_jobs, jobs_number s) }
 
 pub look_at-requires : goal.look_at-requires
 look_at-requires c =
-    let s = says (first (asks c)) in
+    let s = says (first (c)) in
     omega (arith, s.1.sheet.few_jobs, jobs_number s)
 
 pub may-requires : goal.may-requires
 may-requires c =
+    let says : Says c.args.file.now (good c.requires.0 c.requires.1) = said c.args.file.now (λ i. omega (arith, c.shared_slice_known-1.given i)) c.requires.2 in
+    let sheet : Sheet = c.requires.0 in
+    let event : Option Event = kind_of c.event_of-e.result in
+    let names-is : on false (names sheet) event ≡ c.names.result = sym (c.names.ensures sheet (jobs_number (says (c)))) in
+    let named : on false (names (sheet ask)) (event ask) ≡ true = names-is ∙ not-false _ c.if-not-names.false-raw in
     let a = asks c in
-    job_fits (sheet a) (says (first a)).1.sheet.few_jobs a.event_of.result ((let named : on false (names ((let sheet : Sheet = c.requires.0 in sheet) ask)) ((let event : Option Event = kind_of c.event_of-e.result in event) ask) ≡ true = (let names-is : on false (names ((let sheet : Sheet = c.requires.0 in sheet))) ((let event : Option Event = kind_of c.event_of-e.result in event)) ≡ c.names.result = sym (c.names.ensures ((let sheet : Sheet = c.requires.0 in sheet)) (jobs_number ((let says : Says c.args.file.now (good c.requires.0 c.requires.1) = said c.args.file.now (λ i. omega (arith, c.shared_slice_known-1.given i)) c.requires.2 in says) (first c)))) in names-is) ∙ not-false _ c.if-not-names.false-raw in named))
+    job_fits (sheet a) (says (first a)).1.sheet.few_jobs a.event_of.result named
 
 pub returns-then-not-may : goal.returns-then-not-may
 returns-then-not-may c =
+    let says : Says c.args.file.now (good c.requires.0 c.requires.1) = said c.args.file.now (λ i. omega (arith, c.shared_slice_known-1.given i)) c.requires.2 in
+    let sheet : Sheet = c.requires.0 in
+    let desk : Desk = c.args.desk in
+    let event : Option Event = kind_of c.event_of-e.result in
+    let asked_of : tie.After-event-of = asks knows in
+    let possible-is : on false (possible (sheet asked_of) (state_in (desk asked_of))) (event asked_of) ≡ c.may.result = let q = c.state_in-s in
+    let l = looked (says (first asked_of)) (model q.result) c.jobs_of-jobs.ensures c.look_at.ensures in
+    rw q.ensures at (sym (c.may.ensures (sheet asked_of) q.result l)) in
     let y = knows c in
     let a = asks y in
-    let z = (found c).if3.false in
+    let z = c.if-told-ne0.false in
     let n = named y.before.before in
-    let p = (let possible-is : on false (possible ((let sheet : Sheet = c.requires.0 in sheet) asked_of) (state_in ((let desk : Desk = c.args.desk in desk) asked_of))) ((let event : Option Event = kind_of c.event_of-e.result in event) asked_of) ≡ c.may.result = let q = c.state_in-s in
-    let l = looked ((let says : Says c.args.file.now (good c.requires.0 c.requires.1) = said c.args.file.now (λ i. omega (arith, c.shared_slice_known-1.given i)) c.requires.2 in says) (first asked_of)) (model q.result) c.jobs_of-jobs.ensures c.look_at.ensures in
-    rw q.ensures at (sym (c.may.ensures ((let sheet : Sheet = c.requires.0 in sheet) asked_of) q.result l)) in possible-is) ∙ not-true _ c.if-not-may.true-raw in
+    let p = possible-is ∙ not-true _ c.if-not-may.true-raw in
     replies a (c.refused-then-not-may.ensures ∙ ten (sheet a) (rows a) (desk a) (row a) (its-row y) (is-all-known y) z (event a) n p)
 
 pub allowed-requires : goal.allowed-requires
 allowed-requires c =
-    let y = knows c in
+    let y = found.before.before.before in
     let a = asks y in
     job_fits (sheet a) (says (first a)).1.sheet.few_jobs a.event_of.result (named y.before.before)
 
 pub returns-then-not-allowed : goal.returns-then-not-allowed
 returns-then-not-allowed c =
+    let says : Says c.args.file.now (good c.requires.0 c.requires.1) = said c.args.file.now (λ i. omega (arith, c.shared_slice_known-1.given i)) c.requires.2 in
+    let sheet : Sheet = c.requires.0 in
+    let desk : Desk = c.args.desk in
+    let event : Option Event = kind_of c.event_of-e.result in
+    let asked_of : tie.After-event-of = asks knows in
+    let possible-is : on false (possible (sheet asked_of) (state_in (desk asked_of))) (event asked_of) ≡ c.may.result = let q = c.state_in-s in
+    let l = looked (says (first asked_of)) (model q.result) c.jobs_of-jobs.ensures c.look_at.ensures in
+    rw q.ensures at (sym (c.may.ensures (sheet asked_of) q.result l)) in
+    let may-be : tie.After-event-of = asked_of in
+    let can-be : on false (possible (sheet may-be) (state_in (desk may-be))) (event may-be) ≡ true = possible-is ∙ not-false _ c.if-not-may.false-raw in
     let y = knows c in
     let a = asks y in
-    let z = (found c).if3.false in
+    let z = c.if-told-ne0.false in
     let n = named y.before.before in
     let w = sym c.allowed.ensures ∙ not-true _ c.if-not-allowed.true-raw in
-    replies a (c.refused-then-not-allowed.ensures ∙ eleven (sheet a) (rows a) (desk a) (row a) (its-row y) (is-all-known y) z (event a) n ((let can-be : on false (possible ((let sheet : Sheet = c.requires.0 in sheet) may-be) (state_in ((let desk : Desk = c.args.desk in desk) may-be))) ((let event : Option Event = kind_of c.event_of-e.result in event) may-be) ≡ true = (let possible-is : on false (possible ((let sheet : Sheet = c.requires.0 in sheet) asked_of) (state_in ((let desk : Desk = c.args.desk in desk) asked_of))) ((let event : Option Event = kind_of c.event_of-e.result in event) asked_of) ≡ c.may.result = let q = c.state_in-s in
-    let l = looked ((let says : Says c.args.file.now (good c.requires.0 c.requires.1) = said c.args.file.now (λ i. omega (arith, c.shared_slice_known-1.given i)) c.requires.2 in says) (first asked_of)) (model q.result) c.jobs_of-jobs.ensures c.look_at.ensures in
-    rw q.ensures at (sym (c.may.ensures ((let sheet : Sheet = c.requires.0 in sheet) asked_of) q.result l)) in possible-is) ∙ not-false _ c.if-not-may.false-raw in can-be)) w)
+    replies a (c.refused-then-not-allowed.ensures ∙ eleven (sheet a) (rows a) (desk a) (row a) (its-row y) (is-all-known y) z (event a) n can-be w)
 
 pub after-requires : goal.after-requires
 after-requires c =
+    let says : Says c.args.file.now (good c.requires.0 c.requires.1) = said c.args.file.now (λ i. omega (arith, c.shared_slice_known-1.given i)) c.requires.2 in
+    let sheet : Sheet = c.requires.0 in
+    let desk : Desk = c.args.desk in
+    let row : RowReply = c.args.told in
+    let event : Option Event = kind_of c.event_of-e.result in
+    let asked_of : tie.After-event-of = asks knows in
+    let possible-is : on false (possible (sheet asked_of) (state_in (desk asked_of))) (event asked_of) ≡ c.may.result = let q = c.state_in-s in
+    let l = looked (says (first asked_of)) (model q.result) c.jobs_of-jobs.ensures c.look_at.ensures in
+    rw q.ensures at (sym (c.may.ensures (sheet asked_of) q.result l)) in
+    let may-be : tie.After-event-of = asked_of in
+    let can-be : on false (possible (sheet may-be) (state_in (desk may-be))) (event may-be) ≡ true = possible-is ∙ not-false _ c.if-not-may.false-raw in
+    let is-asked : tie.After-event-of = may-be in
+    let is-allowed : on false (allows (row is-asked).starts (row is-asked).tick) (event is-asked) ≡ true = sym c.allowed.ensures ∙ not-false _ c.if-not-allowed.false-raw in
     let q = c.state_in-s in
     let y = knows c in
     let a = asks y in
     let s = says (first a) in
-    let z = (found c).if3.false in
+    let z = c.if-told-ne0.false in
     let n = named y.before.before in (
       omega (arith, s.1.sheet.few_jobs, jobs_number s),
       fits_in (sheet a) (rows a) s.1.sheet s.1.form (desk a) (desk-fits (start a)) (all_known y)
-          (row a) (its-row y) z a.event_of.result q.result q.ensures n ((let can-be : on false (possible ((let sheet : Sheet = c.requires.0 in sheet) may-be) (state_in ((let desk : Desk = c.args.desk in desk) may-be))) ((let event : Option Event = kind_of c.event_of-e.result in event) may-be) ≡ true = (let possible-is : on false (possible ((let sheet : Sheet = c.requires.0 in sheet) asked_of) (state_in ((let desk : Desk = c.args.desk in desk) asked_of))) ((let event : Option Event = kind_of c.event_of-e.result in event) asked_of) ≡ c.may.result = let q = c.state_in-s in
-    let l = looked ((let says : Says c.args.file.now (good c.requires.0 c.requires.1) = said c.args.file.now (λ i. omega (arith, c.shared_slice_known-1.given i)) c.requires.2 in says) (first asked_of)) (model q.result) c.jobs_of-jobs.ensures c.look_at.ensures in
-    rw q.ensures at (sym (c.may.ensures ((let sheet : Sheet = c.requires.0 in sheet) asked_of) q.result l)) in possible-is) ∙ not-false _ c.if-not-may.false-raw in can-be)) ((let is-allowed : on false (allows ((let row : RowReply = c.args.told in row) is-asked).starts ((let row : RowReply = c.args.told in row) is-asked).tick) ((let event : Option Event = kind_of c.event_of-e.result in event) is-asked) ≡ true = sym c.allowed.ensures ∙ not-false _ c.if-not-allowed.false-raw in is-allowed)),
+          (row a) (its-row y) z a.event_of.result q.result q.ensures n can-be is-allowed,
     )
 
 pub returns : goal.returns
 returns c =
+    let says : Says c.args.file.now (good c.requires.0 c.requires.1) = said c.args.file.now (λ i. omega (arith, c.shared_slice_known-1.given i)) c.requires.2 in
+    let sheet : Sheet = c.requires.0 in
+    let desk : Desk = c.args.desk in
+    let row : RowReply = c.args.told in
+    let event : Option Event = kind_of c.event_of-e.result in
+    let asked_of : tie.After-event-of = asks knows in
+    let possible-is : on false (possible (sheet asked_of) (state_in (desk asked_of))) (event asked_of) ≡ c.may.result = let q = c.state_in-s in
+    let l = looked (says (first asked_of)) (model q.result) c.jobs_of-jobs.ensures c.look_at.ensures in
+    rw q.ensures at (sym (c.may.ensures (sheet asked_of) q.result l)) in
+    let may-be : tie.After-event-of = asked_of in
+    let can-be : on false (possible (sheet may-be) (state_in (desk may-be))) (event may-be) ≡ true = possible-is ∙ not-false _ c.if-not-may.false-raw in
+    let is-asked : tie.After-event-of = may-be in
+    let is-allowed : on false (allows (row is-asked).starts (row is-asked).tick) (event is-asked) ≡ true = sym c.allowed.ensures ∙ not-false _ c.if-not-allowed.false-raw in
     let q = c.state_in-s in
     let y = knows c in
     let a = asks y in
-    let z = (found c).if3.false in
+    let z = c.if-told-ne0.false in
     let n = named y.before.before in
     let g = rw q.ensures at (c.after.ensures (sheet a) (jobs_number (says (first a)))) in
     replies a (ap moved c.desk_of-next.ensures
-    ∙ taken (sheet a) (rows a) (desk a) (row a) (its-row y) (is-all-known y) z (event a) n ((let can-be : on false (possible ((let sheet : Sheet = c.requires.0 in sheet) may-be) (state_in ((let desk : Desk = c.args.desk in desk) may-be))) ((let event : Option Event = kind_of c.event_of-e.result in event) may-be) ≡ true = (let possible-is : on false (possible ((let sheet : Sheet = c.requires.0 in sheet) asked_of) (state_in ((let desk : Desk = c.args.desk in desk) asked_of))) ((let event : Option Event = kind_of c.event_of-e.result in event) asked_of) ≡ c.may.result = let q = c.state_in-s in
-    let l = looked ((let says : Says c.args.file.now (good c.requires.0 c.requires.1) = said c.args.file.now (λ i. omega (arith, c.shared_slice_known-1.given i)) c.requires.2 in says) (first asked_of)) (model q.result) c.jobs_of-jobs.ensures c.look_at.ensures in
-    rw q.ensures at (sym (c.may.ensures ((let sheet : Sheet = c.requires.0 in sheet) asked_of) q.result l)) in possible-is) ∙ not-false _ c.if-not-may.false-raw in can-be)) ((let is-allowed : on false (allows ((let row : RowReply = c.args.told in row) is-asked).starts ((let row : RowReply = c.args.told in row) is-asked).tick) ((let event : Option Event = kind_of c.event_of-e.result in event) is-asked) ≡ true = sym c.allowed.ensures ∙ not-false _ c.if-not-allowed.false-raw in is-allowed)) _ g)
+    ∙ taken (sheet a) (rows a) (desk a) (row a) (its-row y) (is-all-known y) z (event a) n can-be is-allowed _ g)

@@ -32,6 +32,6 @@ returns c = λ σ rows s.
     let a = c.args in
     let r = c.count_rows-count in
     let e = r.ensures ∙ sym (rows_number s) in
-    subst (λ (t : List ℕ). Printed a.out.now 0 t c.put_rows.result c.put_rows.new.0)
+    subst (λ (t : List ℕ). Printed a.out.now 0 t c.put_rows.result c.put_rows.new.out)
     (lines_listing s (get_or a.file.now 3 0) r.result (sym (jobs_number s)) e)
     (printed_then c.put_header-next.ensures c.put_rows.ensures)

@@ -36,47 +36,111 @@ pub rows_good-requires : goal.rows_good-requires
 rows_good-requires c = let o = c.requires in record { le_b = (omega arith, (omega arith, (o.0.short, o.0.whole))); n_le_most_jobs = o.1.few }
 
 pub overflow_cast-result : goal.overflow_cast-result
-overflow_cast-result c = omega (arith, ((let opens : Opens (let file : List ℕ = c.args.file.now in file) = c.requires in opens)).0.short, (let within : (let b : ℕ = c.loop-passed.passed + 1 in b) < total (let file : List ℕ = c.args.file.now in file) = omega arith in within))
+overflow_cast-result c =
+    let file : List ℕ = c.args.file.now in
+    let b : ℕ = c.loop-passed.passed + 1 in
+    let opens : Opens file = c.requires in
+    let within : b < total file = omega arith in
+    omega (arith, opens.0.short, within)
 
 pub returns-then-not-rows_good : goal.returns-then-not-rows_good
 returns-then-not-rows_good c =
-    next_refused ((let file : List ℕ = c.args.file.now in file)) ((let word : ℕ = c.args.word in word)) ((let opens : Opens (let file : List ℕ = c.args.file.now in file) = c.requires in opens)).0 ((let b : ℕ = c.loop-passed.passed + 1 in b)) ((let past : Past (let file : List ℕ = c.args.file.now in file) (let word : ℕ = c.args.word in word) (let b : ℕ = c.loop-passed.passed + 1 in b) = c.loop-passed.invariant.1 in past)) ((let within : (let b : ℕ = c.loop-passed.passed + 1 in b) < total (let file : List ℕ = c.args.file.now in file) = omega arith in within)) (block_bad ((let file : List ℕ = c.args.file.now in file)) _ _ _ ((let jobs : sheet_of c.jobs_of-jobs.result (get_or (block_at (let file : List ℕ = c.args.file.now in file) 0) 3 0) ≡ jobs_in (block_at (let file : List ℕ = c.args.file.now in file) 0) = sheet_is _ _ _ c.jobs_of-jobs.ensures refl (let opens : Opens (let file : List ℕ = c.args.file.now in file) = c.requires in opens).1.few in jobs)) c.rows_good.ensures (not-true _ c.if-not-rows_good.true-raw))
+    let file : List ℕ = c.args.file.now in
+    let word : ℕ = c.args.word in
+    let b : ℕ = c.loop-passed.passed + 1 in
+    let opens : Opens file = c.requires in
+    let past : Past file word b = c.loop-passed.invariant.1 in
+    let within : b < total file = omega arith in
+    let jobs : sheet_of c.jobs_of-jobs.result (get_or (block_at file 0) 3 0) ≡ jobs_in (block_at file 0) = sheet_is _ _ _ c.jobs_of-jobs.ensures refl opens.1.few in
+    next_refused file word opens.0 b past within (block_bad file _ _ _ jobs c.rows_good.ensures (not-true _ c.if-not-rows_good.true-raw))
 
 pub rows_to-rows-requires : goal.rows_to-rows-requires
-rows_to-rows-requires c = (((let opens : Opens (let file : List ℕ = c.args.file.now in file) = c.requires in opens)).0, (omega arith, (let within : (let b : ℕ = c.loop-passed.passed + 1 in b) < total (let file : List ℕ = c.args.file.now in file) = omega arith in within)))
+rows_to-rows-requires c =
+    let file : List ℕ = c.args.file.now in
+    let b : ℕ = c.loop-passed.passed + 1 in
+    let opens : Opens file = c.requires in
+    let within : b < total file = omega arith in
+    (opens.0, (omega arith, within))
 
 pub overflow_sub-rows : goal.overflow_sub-rows
-overflow_sub-rows c = omega (arith, ((let good : RowsBlock (jobs_in (block_at ((let file : List ℕ = c.args.file.now in file) d) 0)) (total ((let file : List ℕ = c.args.file.now in file) d)) ((let b : ℕ = c.loop-passed.passed + 1 in b) d) (before ((let file : List ℕ = c.args.file.now in file) d) ((let b : ℕ = c.loop-passed.passed + 1 in b) d)) (block_at ((let file : List ℕ = c.args.file.now in file) d) ((let b : ℕ = c.loop-passed.passed + 1 in b) d)) = block_good ((let file : List ℕ = c.args.file.now in file) d) _ _ _ ((let jobs : sheet_of c.jobs_of-jobs.result (get_or (block_at (let file : List ℕ = c.args.file.now in file) 0) 3 0) ≡ jobs_in (block_at (let file : List ℕ = c.args.file.now in file) 0) = sheet_is _ _ _ c.jobs_of-jobs.ensures refl (let opens : Opens (let file : List ℕ = c.args.file.now in file) = c.requires in opens).1.few in jobs) d) c.rows_good.ensures (not-false _ c.if-not-rows_good.false-raw) in good)).count.some, c.rows_to-rows.ensures)
+overflow_sub-rows c =
+    let file : List ℕ = c.args.file.now in
+    let b : ℕ = c.loop-passed.passed + 1 in
+    let opens : Opens file = c.requires in
+    let jobs : sheet_of c.jobs_of-jobs.result (get_or (block_at file 0) 3 0) ≡ jobs_in (block_at file 0) = sheet_is _ _ _ c.jobs_of-jobs.ensures refl opens.1.few in
+    let good : RowsBlock (jobs_in (block_at (file d) 0)) (total (file d)) (b d) (before (file d) (b d)) (block_at (file d) (b d)) = block_good (file d) _ _ _ (jobs d) c.rows_good.ensures (not-false _ c.if-not-rows_good.false-raw) in
+    omega (arith, good.count.some, c.rows_to-rows.ensures)
 
 pub word_at-requires : goal.word_at-requires
-word_at-requires c = let e = d c in last_there (file e) (word e) (opens e).0 (b e) (past e) (within e) _ ((let read : ReadTo ((let file : List ℕ = c.args.file.now in file) d) ((let b : ℕ = c.loop-passed.passed + 1 in b) d) c.rows_to-rows.result = next_read ((let file : List ℕ = c.args.file.now in file) d) ((let word : ℕ = c.args.word in word) d) ((let opens : Opens (let file : List ℕ = c.args.file.now in file) = c.requires in opens) d).0 ((let b : ℕ = c.loop-passed.passed + 1 in b) d) ((let past : Past (let file : List ℕ = c.args.file.now in file) (let word : ℕ = c.args.word in word) (let b : ℕ = c.loop-passed.passed + 1 in b) = c.loop-passed.invariant.1 in past) d) ((let within : (let b : ℕ = c.loop-passed.passed + 1 in b) < total (let file : List ℕ = c.args.file.now in file) = omega arith in within) d)
-    (λ i. omega (arith, c.shared_slice_known-1.given i)) (let good : RowsBlock (jobs_in (block_at ((let file : List ℕ = c.args.file.now in file) d) 0)) (total ((let file : List ℕ = c.args.file.now in file) d)) ((let b : ℕ = c.loop-passed.passed + 1 in b) d) (before ((let file : List ℕ = c.args.file.now in file) d) ((let b : ℕ = c.loop-passed.passed + 1 in b) d)) (block_at ((let file : List ℕ = c.args.file.now in file) d) ((let b : ℕ = c.loop-passed.passed + 1 in b) d)) = block_good ((let file : List ℕ = c.args.file.now in file) d) _ _ _ ((let jobs : sheet_of c.jobs_of-jobs.result (get_or (block_at (let file : List ℕ = c.args.file.now in file) 0) 3 0) ≡ jobs_in (block_at (let file : List ℕ = c.args.file.now in file) 0) = sheet_is _ _ _ c.jobs_of-jobs.ensures refl (let opens : Opens file = c.requires in opens).1.few in jobs) d) c.rows_good.ensures (not-false _ c.if-not-rows_good.false-raw) in good) _ c.rows_to-rows.ensures in read))
+word_at-requires c =
+    let file : List ℕ = c.args.file.now in
+    let word : ℕ = c.args.word in
+    let b : ℕ = c.loop-passed.passed + 1 in
+    let opens : Opens file = c.requires in
+    let past : Past file word b = c.loop-passed.invariant.1 in
+    let within : b < total file = omega arith in
+    let jobs : sheet_of c.jobs_of-jobs.result (get_or (block_at file 0) 3 0) ≡ jobs_in (block_at file 0) = sheet_is _ _ _ c.jobs_of-jobs.ensures refl opens.1.few in
+    let good : RowsBlock (jobs_in (block_at (file d) 0)) (total (file d)) (b d) (before (file d) (b d)) (block_at (file d) (b d)) = block_good (file d) _ _ _ (jobs d) c.rows_good.ensures (not-false _ c.if-not-rows_good.false-raw) in
+    let read : ReadTo (file d) (b d) c.rows_to-rows.result = next_read (file d) (word d) (opens d).0 (b d) (past d) (within d)
+    (λ i. omega (arith, c.shared_slice_known-1.given i)) good _ c.rows_to-rows.ensures in
+    let e = d c in last_there (file e) (word e) (opens e).0 (b e) (past e) (within e) _ read
 
 pub overflow_cast-result-then-word-word_at : goal.overflow_cast-result-then-word-word_at
 overflow_cast-result-then-word-word_at c =
+    let file : List ℕ = c.args.file.now in
+    let word : ℕ = c.args.word in
+    let b : ℕ = c.loop-passed.passed + 1 in
+    let opens : Opens file = c.requires in
+    let past : Past file word b = c.loop-passed.invariant.1 in
+    let within : b < total file = omega arith in
+    let jobs : sheet_of c.jobs_of-jobs.result (get_or (block_at file 0) 3 0) ≡ jobs_in (block_at file 0) = sheet_is _ _ _ c.jobs_of-jobs.ensures refl opens.1.few in
+    let good : RowsBlock (jobs_in (block_at (file d) 0)) (total (file d)) (b d) (before (file d) (b d)) (block_at (file d) (b d)) = block_good (file d) _ _ _ (jobs d) c.rows_good.ensures (not-false _ c.if-not-rows_good.false-raw) in
+    let read : ReadTo (file d) (b d) c.rows_to-rows.result = next_read (file d) (word d) (opens d).0 (b d) (past d) (within d)
+    (λ i. omega (arith, c.shared_slice_known-1.given i)) good _ c.rows_to-rows.ensures in
     let e = d c in
-    omega (arith, (last_there (file e) (word e) (opens e).0 (b e) (past e) (within e) _ ((let read : ReadTo ((let file : List ℕ = c.args.file.now in file) d) ((let b : ℕ = c.loop-passed.passed + 1 in b) d) c.rows_to-rows.result = next_read ((let file : List ℕ = c.args.file.now in file) d) ((let word : ℕ = c.args.word in word) d) ((let opens : Opens (let file : List ℕ = c.args.file.now in file) = c.requires in opens) d).0 ((let b : ℕ = c.loop-passed.passed + 1 in b) d) ((let past : Past (let file : List ℕ = c.args.file.now in file) (let word : ℕ = c.args.word in word) (let b : ℕ = c.loop-passed.passed + 1 in b) = c.loop-passed.invariant.1 in past) d) ((let within : (let b : ℕ = c.loop-passed.passed + 1 in b) < total (let file : List ℕ = c.args.file.now in file) = omega arith in within) d)
-    (λ i. omega (arith, c.shared_slice_known-1.given i)) (let good : RowsBlock (jobs_in (block_at ((let file : List ℕ = c.args.file.now in file) d) 0)) (total ((let file : List ℕ = c.args.file.now in file) d)) ((let b : ℕ = c.loop-passed.passed + 1 in b) d) (before ((let file : List ℕ = c.args.file.now in file) d) ((let b : ℕ = c.loop-passed.passed + 1 in b) d)) (block_at ((let file : List ℕ = c.args.file.now in file) d) ((let b : ℕ = c.loop-passed.passed + 1 in b) d)) = block_good ((let file : List ℕ = c.args.file.now in file) d) _ _ _ ((let jobs : sheet_of c.jobs_of-jobs.result (get_or (block_at (let file : List ℕ = c.args.file.now in file) 0) 3 0) ≡ jobs_in (block_at (let file : List ℕ = c.args.file.now in file) 0) = sheet_is _ _ _ c.jobs_of-jobs.ensures refl (let opens : Opens file = c.requires in opens).1.few in jobs) d) c.rows_good.ensures (not-false _ c.if-not-rows_good.false-raw) in good) _ c.rows_to-rows.ensures in read))).0)
+    omega (arith, (last_there (file e) (word e) (opens e).0 (b e) (past e) (within e) _ read).0)
 
 pub returns-then-word-word_at : goal.returns-then-word-word_at
 returns-then-word-word_at c =
+    let file : List ℕ = c.args.file.now in
+    let word : ℕ = c.args.word in
+    let b : ℕ = c.loop-passed.passed + 1 in
+    let opens : Opens file = c.requires in
+    let past : Past file word b = c.loop-passed.invariant.1 in
+    let within : b < total file = omega arith in
+    let jobs : sheet_of c.jobs_of-jobs.result (get_or (block_at file 0) 3 0) ≡ jobs_in (block_at file 0) = sheet_is _ _ _ c.jobs_of-jobs.ensures refl opens.1.few in
+    let good : RowsBlock (jobs_in (block_at (file d) 0)) (total (file d)) (b d) (before (file d) (b d)) (block_at (file d) (b d)) = block_good (file d) _ _ _ (jobs d) c.rows_good.ensures (not-false _ c.if-not-rows_good.false-raw) in
+    let read : ReadTo (file d) (b d) c.rows_to-rows.result = next_read (file d) (word d) (opens d).0 (b d) (past d) (within d)
+    (λ i. omega (arith, c.shared_slice_known-1.given i)) good _ c.rows_to-rows.ensures in
     let e = d c in
-    next_stops (file e) (word e) (opens e).0 (b e) (past e) (within e) _ ((let read : ReadTo ((let file : List ℕ = c.args.file.now in file) d) ((let b : ℕ = c.loop-passed.passed + 1 in b) d) c.rows_to-rows.result = next_read ((let file : List ℕ = c.args.file.now in file) d) ((let word : ℕ = c.args.word in word) d) ((let opens : Opens (let file : List ℕ = c.args.file.now in file) = c.requires in opens) d).0 ((let b : ℕ = c.loop-passed.passed + 1 in b) d) ((let past : Past (let file : List ℕ = c.args.file.now in file) (let word : ℕ = c.args.word in word) (let b : ℕ = c.loop-passed.passed + 1 in b) = c.loop-passed.invariant.1 in past) d) ((let within : (let b : ℕ = c.loop-passed.passed + 1 in b) < total (let file : List ℕ = c.args.file.now in file) = omega arith in within) d)
-    (λ i. omega (arith, c.shared_slice_known-1.given i)) (let good : RowsBlock (jobs_in (block_at ((let file : List ℕ = c.args.file.now in file) d) 0)) (total ((let file : List ℕ = c.args.file.now in file) d)) ((let b : ℕ = c.loop-passed.passed + 1 in b) d) (before ((let file : List ℕ = c.args.file.now in file) d) ((let b : ℕ = c.loop-passed.passed + 1 in b) d)) (block_at ((let file : List ℕ = c.args.file.now in file) d) ((let b : ℕ = c.loop-passed.passed + 1 in b) d)) = block_good ((let file : List ℕ = c.args.file.now in file) d) _ _ _ ((let jobs : sheet_of c.jobs_of-jobs.result (get_or (block_at (let file : List ℕ = c.args.file.now in file) 0) 3 0) ≡ jobs_in (block_at (let file : List ℕ = c.args.file.now in file) 0) = sheet_is _ _ _ c.jobs_of-jobs.ensures refl (let opens : Opens file = c.requires in opens).1.few in jobs) d) c.rows_good.ensures (not-false _ c.if-not-rows_good.false-raw) in good) _ c.rows_to-rows.ensures in read)) (omega (arith, c.word_at.ensures, c.if-word-word_at.true))
+    next_stops (file e) (word e) (opens e).0 (b e) (past e) (within e) _ read (omega (arith, c.word_at.ensures, c.if-word-word_at.true))
 
 pub loop-passed-preserved : goal.loop-passed-preserved
 loop-passed-preserved c =
+    let file : List ℕ = c.args.file.now in
+    let word : ℕ = c.args.word in
+    let b : ℕ = c.loop-passed.passed + 1 in
+    let opens : Opens file = c.requires in
+    let past : Past file word b = c.loop-passed.invariant.1 in
+    let within : b < total file = omega arith in
+    let jobs : sheet_of c.jobs_of-jobs.result (get_or (block_at file 0) 3 0) ≡ jobs_in (block_at file 0) = sheet_is _ _ _ c.jobs_of-jobs.ensures refl opens.1.few in
+    let good : RowsBlock (jobs_in (block_at (file d) 0)) (total (file d)) (b d) (before (file d) (b d)) (block_at (file d) (b d)) = block_good (file d) _ _ _ (jobs d) c.rows_good.ensures (not-false _ c.if-not-rows_good.false-raw) in
+    let read : ReadTo (file d) (b d) c.rows_to-rows.result = next_read (file d) (word d) (opens d).0 (b d) (past d) (within d)
+    (λ i. omega (arith, c.shared_slice_known-1.given i)) good _ c.rows_to-rows.ensures in
     let e = d c in
-    (omega arith, next_past (file e) (word e) (opens e).0 (b e) (past e) (within e) _ ((let read : ReadTo ((let file : List ℕ = c.args.file.now in file) d) ((let b : ℕ = c.loop-passed.passed + 1 in b) d) c.rows_to-rows.result = next_read ((let file : List ℕ = c.args.file.now in file) d) ((let word : ℕ = c.args.word in word) d) ((let opens : Opens (let file : List ℕ = c.args.file.now in file) = c.requires in opens) d).0 ((let b : ℕ = c.loop-passed.passed + 1 in b) d) ((let past : Past (let file : List ℕ = c.args.file.now in file) (let word : ℕ = c.args.word in word) (let b : ℕ = c.loop-passed.passed + 1 in b) = c.loop-passed.invariant.1 in past) d) ((let within : (let b : ℕ = c.loop-passed.passed + 1 in b) < total (let file : List ℕ = c.args.file.now in file) = omega arith in within) d)
-    (λ i. omega (arith, c.shared_slice_known-1.given i)) (let good : RowsBlock (jobs_in (block_at ((let file : List ℕ = c.args.file.now in file) d) 0)) (total ((let file : List ℕ = c.args.file.now in file) d)) ((let b : ℕ = c.loop-passed.passed + 1 in b) d) (before ((let file : List ℕ = c.args.file.now in file) d) ((let b : ℕ = c.loop-passed.passed + 1 in b) d)) (block_at ((let file : List ℕ = c.args.file.now in file) d) ((let b : ℕ = c.loop-passed.passed + 1 in b) d)) = block_good ((let file : List ℕ = c.args.file.now in file) d) _ _ _ ((let jobs : sheet_of c.jobs_of-jobs.result (get_or (block_at (let file : List ℕ = c.args.file.now in file) 0) 3 0) ≡ jobs_in (block_at (let file : List ℕ = c.args.file.now in file) 0) = sheet_is _ _ _ c.jobs_of-jobs.ensures refl (let opens : Opens file = c.requires in opens).1.few in jobs) d) c.rows_good.ensures (not-false _ c.if-not-rows_good.false-raw) in good) _ c.rows_to-rows.ensures in read)) (omega (arith, c.word_at.ensures, c.if-word-word_at.false)))
+    (omega arith, next_past (file e) (word e) (opens e).0 (b e) (past e) (within e) _ read (omega (arith, c.word_at.ensures, c.if-word-word_at.false)))
 
 pub count_rows-all-requires : goal.count_rows-all-requires
 count_rows-all-requires c = c.requires.0
 
 pub overflow_cast-all : goal.overflow_cast-all
-overflow_cast-all c = let j = (let judged : Judged c.args.file.now c.args.word (Good c.count_rows-all.result) = let l = c.loop-passed in
-    past_last c.args.file.now c.args.word c.requires.0 (l.passed + 1) l.invariant.1 (omega arith) _ c.count_rows-all.ensures in judged) in omega (arith, read_few j.2.1 j.2.3, j.3)
+overflow_cast-all c =
+    let judged : Judged c.args.file.now c.args.word (Good c.count_rows-all.result) = let l = c.loop-passed in
+    past_last c.args.file.now c.args.word c.requires.0 (l.passed + 1) l.invariant.1 (omega arith) _ c.count_rows-all.ensures in
+    let j = judged in omega (arith, read_few j.2.1 j.2.3, j.3)
 
 pub returns : goal.returns
-returns c = (let judged : Judged c.args.file.now c.args.word (Good c.count_rows-all.result) = let l = c.loop-passed in
-    past_last c.args.file.now c.args.word c.requires.0 (l.passed + 1) l.invariant.1 (omega arith) _ c.count_rows-all.ensures in judged)
+returns c =
+    let judged : Judged c.args.file.now c.args.word (Good c.count_rows-all.result) = let l = c.loop-passed in
+    past_last c.args.file.now c.args.word c.requires.0 (l.passed + 1) l.invariant.1 (omega arith) _ c.count_rows-all.ensures in
+    judged

@@ -15,20 +15,29 @@ use Rattle.table.proofs.leeway.leeway.Goals as goal
 
 pub bounds-file-3 : goal.bounds-file-3
 bounds-file-3 c =
-    let s = (subst (Judged ((let file : List ℕ = c.args.file.now in file)) past_all) c.judgement-in-Good-1.given.1 ((let judged : Judged (let file : List ℕ = c.args.file.now in file) past_all c.read_for-judgement.result = c.read_for-judgement.ensures in judged))).2.1 in
+    let file : List ℕ = c.args.file.now in
+    let judged : Judged file past_all c.read_for-judgement.result = c.read_for-judgement.ensures in
+    let s = (subst (Judged file past_all) c.judgement-in-Good-1.given.1 judged).2.1 in
     omega (arith, s.whole, s.long)
 
 pub leeway_in-requires : goal.leeway_in-requires
 leeway_in-requires c =
-    whole_counts ((let file : List ℕ = c.args.file.now in file)) _ _ refl (subst (Judged ((let file : List ℕ = c.args.file.now in file)) past_all) c.judgement-in-Good-1.given.1 ((let judged : Judged (let file : List ℕ = c.args.file.now in file) past_all c.read_for-judgement.result = c.read_for-judgement.ensures in judged)))
+    let file : List ℕ = c.args.file.now in
+    let judged : Judged file past_all c.read_for-judgement.result = c.read_for-judgement.ensures in
+    whole_counts file _ _ refl (subst (Judged file past_all) c.judgement-in-Good-1.given.1 judged)
 
 pub returns-in-Bad : goal.returns-in-Bad
 returns-in-Bad c =
+    let file : List ℕ = c.args.file.now in
+    let small : EachByte file = λ i. omega (arith, c.shared_slice_known-1.given i) in
+    let judged : Judged file past_all c.read_for-judgement.result = c.read_for-judgement.ensures in
     let a = c.args in
-    let b = subst (Judged ((let file : List ℕ = c.args.file.now in file)) past_all) c.judgement-1.given.1 ((let judged : Judged (let file : List ℕ = c.args.file.now in file) past_all c.read_for-judgement.result = c.read_for-judgement.ensures in judged)) in
-    answer_is ((let file : List ℕ = c.args.file.now in file)) ((let small : EachByte (let file : List ℕ = c.args.file.now in file) = λ i.  omega (arith, c.shared_slice_known-1.given i) in small)) (leeway_reply a.word a.job) _ (bad _, read_whole ((let file : List ℕ = c.args.file.now in file)) (bad _) b, c.refusal.ensures)
+    let b = subst (Judged file past_all) c.judgement-1.given.1 judged in
+    answer_is file small (leeway_reply a.word a.job) _ (bad _, read_whole file (bad _) b, c.refusal.ensures)
 
 pub returns-in-Good : goal.returns-in-Good
 returns-in-Good c =
+    let file : List ℕ = c.args.file.now in
+    let small : EachByte file = λ i. omega (arith, c.shared_slice_known-1.given i) in
     let a = c.args in
-    answer_is ((let file : List ℕ = c.args.file.now in file)) ((let small : EachByte (let file : List ℕ = c.args.file.now in file) = λ i.  omega (arith, c.shared_slice_known-1.given i) in small)) (leeway_reply a.word a.job) _ c.leeway_in.ensures
+    answer_is file small (leeway_reply a.word a.job) _ c.leeway_in.ensures

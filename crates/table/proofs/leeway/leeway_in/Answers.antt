@@ -29,29 +29,78 @@ find-requires c = let p = c.requires in (total c.args.file.now - 1, p.0, p.1, p.
 
 pub returns-in_default : goal.returns-in_default
 returns-in_default c =
-    rw c.refusal-in_default.ensures (leeway_eight ((let says : Says c.args.file.now (good (let sheet : Sheet = c.requires.0 in sheet) (let rows : List Entry = c.requires.1 in rows)) = c.requires.2 in says)) ((let word : ℕ = c.args.word in word)) ((let number : ℕ = c.args.job in number)) ((let named : Names (let sheet : Sheet = c.requires.0 in sheet) (let number : ℕ = c.args.job in number) = omega (arith, c.requires.3) in named)) (subst (Finds ((let rows : List Entry = c.requires.1 in rows)) ((let word : ℕ = c.args.word in word))) c.enum_told-in_default-1.given.1 ((let found : Finds (let rows : List Entry = c.requires.1 in rows) (let word : ℕ = c.args.word in word) c.find.result = c.find.ensures (total c.args.file.now - 1) (let sheet : Sheet = c.requires.0 in sheet) (let rows : List Entry = c.requires.1 in rows) (let says : Says c.args.file.now (good (let sheet : Sheet = c.requires.0 in sheet) (let rows : List Entry = c.requires.1 in rows)) = c.requires.2 in says).1 c.requires.4 in found))))
+    let word : ℕ = c.args.word in
+    let number : ℕ = c.args.job in
+    let sheet : Sheet = c.requires.0 in
+    let rows : List Entry = c.requires.1 in
+    let says : Says c.args.file.now (good sheet rows) = c.requires.2 in
+    let named : Names sheet number = omega (arith, c.requires.3) in
+    let found : Finds rows word c.find.result = c.find.ensures (total c.args.file.now - 1) sheet rows says.1 c.requires.4 in
+    rw c.refusal-in_default.ensures (leeway_eight says word number named (subst (Finds rows word) c.enum_told-in_default-1.given.1 found))
 
 pub overflow_cast-job : goal.overflow_cast-job
-overflow_cast-job c = record { fits = omega (arith, ((let named : Names (let sheet : Sheet = c.requires.0 in sheet) (let number : ℕ = c.args.job in number) = omega (arith, c.requires.3) in named)).1, ((let says : Says c.args.file.now (good (let sheet : Sheet = c.requires.0 in sheet) (let rows : List Entry = c.requires.1 in rows)) = c.requires.2 in says)).1.sheet.few_jobs) }
+overflow_cast-job c =
+    let number : ℕ = c.args.job in
+    let sheet : Sheet = c.requires.0 in
+    let rows : List Entry = c.requires.1 in
+    let says : Says c.args.file.now (good sheet rows) = c.requires.2 in
+    let named : Names sheet number = omega (arith, c.requires.3) in
+    record { fits = omega (arith, named.1, says.1.sheet.few_jobs) }
 
 pub status_in-requires : goal.status_in-requires
-status_in-requires c = omega (arith, ((let named : Names (let sheet : Sheet = c.requires.0 in sheet) (let number : ℕ = c.args.job in number) = omega (arith, c.requires.3) in named)).0, ((let named : Names (let sheet : Sheet = c.requires.0 in sheet) (let number : ℕ = c.args.job in number) = omega (arith, c.requires.3) in named)).1, ((let says : Says c.args.file.now (good (let sheet : Sheet = c.requires.0 in sheet) (let rows : List Entry = c.requires.1 in rows)) = c.requires.2 in says)).1.sheet.few_jobs)
+status_in-requires c =
+    let number : ℕ = c.args.job in
+    let sheet : Sheet = c.requires.0 in
+    let rows : List Entry = c.requires.1 in
+    let says : Says c.args.file.now (good sheet rows) = c.requires.2 in
+    let named : Names sheet number = omega (arith, c.requires.3) in
+    omega (arith, named.0, named.1, says.1.sheet.few_jobs)
 
 pub returns-then-status_in-ge2 : goal.returns-then-status_in-ge2
 returns-then-status_in-ge2 c =
-    let f = subst (Finds ((let rows : List Entry = c.requires.1 in rows)) ((let word : ℕ = c.args.word in word))) c.enum_told-1.given.1 ((let found : Finds (let rows : List Entry = c.requires.1 in rows) (let word : ℕ = c.args.word in word) c.find.result = c.find.ensures (total c.args.file.now - 1) (let sheet : Sheet = c.requires.0 in sheet) (let rows : List Entry = c.requires.1 in rows) (let says : Says c.args.file.now (good (let sheet : Sheet = c.requires.0 in sheet) (let rows : List Entry = c.requires.1 in rows)) = c.requires.2 in says).1 c.requires.4 in found)) in
-    rw c.refusal-then-status_in-ge2.ensures (leeway_twelve ((let says : Says c.args.file.now (good (let sheet : Sheet = c.requires.0 in sheet) (let rows : List Entry = c.requires.1 in rows)) = c.requires.2 in says)) ((let word : ℕ = c.args.word in word)) ((let number : ℕ = c.args.job in number)) ((let named : Names (let sheet : Sheet = c.requires.0 in sheet) (let number : ℕ = c.args.job in number) = omega (arith, c.requires.3) in named)) _ f (rw c.status_in.ensures at c.if-status_in-ge2.true))
+    let word : ℕ = c.args.word in
+    let number : ℕ = c.args.job in
+    let sheet : Sheet = c.requires.0 in
+    let rows : List Entry = c.requires.1 in
+    let says : Says c.args.file.now (good sheet rows) = c.requires.2 in
+    let named : Names sheet number = omega (arith, c.requires.3) in
+    let found : Finds rows word c.find.result = c.find.ensures (total c.args.file.now - 1) sheet rows says.1 c.requires.4 in
+    let f = subst (Finds rows word) c.enum_told-1.given.1 found in
+    rw c.refusal-then-status_in-ge2.ensures (leeway_twelve says word number named _ f (rw c.status_in.ensures at c.if-status_in-ge2.true))
 
 pub left-requires : goal.left-requires
-left-requires c = let g = (let good_job : GoodJob (let here : Job = job ((let sheet : Sheet = c.requires.0 in sheet) f) ((let number : ℕ = c.args.job in number) f) in here) = ((let says : Says c.args.file.now (good (let sheet : Sheet = c.requires.0 in sheet) (let rows : List Entry = c.requires.1 in rows)) = c.requires.2 in says) f).1.sheet.each ((let number : ℕ = c.args.job in number) f) ((let named : Names (let sheet : Sheet = c.requires.0 in sheet) (let number : ℕ = c.args.job in number) = omega (arith, c.requires.3) in named) f) in good_job) in (omega (arith, g.early, (let arrives : c.read16-arrives.result ≡ (let here : Job = job ((let sheet : Sheet = c.requires.0 in sheet) f) ((let number : ℕ = c.args.job in number) f) in here).arrives = c.read16-arrives.ensures ∙ ap (λ (x : Job). x.arrives) (let placed : job_from c.args.file.now (slot_at ((let number : ℕ = c.args.job in number) f - 1)) ≡ (let here : Job = job ((let sheet : Sheet = c.requires.0 in sheet) f) ((let number : ℕ = c.args.job in number) f) in here) = job_placed ((let says : Says c.args.file.now (good (let sheet : Sheet = c.requires.0 in sheet) (let rows : List Entry = c.requires.1 in rows)) = c.requires.2 in says) f) ((let number : ℕ = c.args.job in number) f) ((let named : Names (let sheet : Sheet = c.requires.0 in sheet) (let number : ℕ = c.args.job in number) = omega (arith, c.requires.3) in named) f) in placed) in arrives), (let due : c.read16-due.result ≡ (let here : Job = job ((let sheet : Sheet = c.requires.0 in sheet) f) ((let number : ℕ = c.args.job in number) f) in here).due = c.read16-due.ensures ∙ ap (λ (x : Job). x.due) (let placed : job_from c.args.file.now (slot_at ((let number : ℕ = c.args.job in number) f - 1)) ≡ (let here : Job = job ((let sheet : Sheet = c.requires.0 in sheet) f) ((let number : ℕ = c.args.job in number) f) in here) = job_placed ((let says : Says c.args.file.now (good (let sheet : Sheet = c.requires.0 in sheet) (let rows : List Entry = c.requires.1 in rows)) = c.requires.2 in says) f) ((let number : ℕ = c.args.job in number) f) ((let named : Names (let sheet : Sheet = c.requires.0 in sheet) (let number : ℕ = c.args.job in number) = omega (arith, c.requires.3) in named) f) in placed) in due)), omega (arith, g.fits, (let most : c.read16-most.result ≡ (let here : Job = job ((let sheet : Sheet = c.requires.0 in sheet) f) ((let number : ℕ = c.args.job in number) f) in here).most = c.read16-most.ensures ∙ ap (λ (x : Job). x.most) (let placed : job_from c.args.file.now (slot_at ((let number : ℕ = c.args.job in number) f - 1)) ≡ (let here : Job = job ((let sheet : Sheet = c.requires.0 in sheet) f) ((let number : ℕ = c.args.job in number) f) in here) = job_placed ((let says : Says c.args.file.now (good (let sheet : Sheet = c.requires.0 in sheet) (let rows : List Entry = c.requires.1 in rows)) = c.requires.2 in says) f) ((let number : ℕ = c.args.job in number) f) ((let named : Names (let sheet : Sheet = c.requires.0 in sheet) (let number : ℕ = c.args.job in number) = omega (arith, c.requires.3) in named) f) in placed) in most), (let due : c.read16-due.result ≡ (let here : Job = job ((let sheet : Sheet = c.requires.0 in sheet) f) ((let number : ℕ = c.args.job in number) f) in here).due = c.read16-due.ensures ∙ ap (λ (x : Job). x.due) (let placed : job_from c.args.file.now (slot_at ((let number : ℕ = c.args.job in number) f - 1)) ≡ (let here : Job = job ((let sheet : Sheet = c.requires.0 in sheet) f) ((let number : ℕ = c.args.job in number) f) in here) = job_placed ((let says : Says c.args.file.now (good (let sheet : Sheet = c.requires.0 in sheet) (let rows : List Entry = c.requires.1 in rows)) = c.requires.2 in says) f) ((let number : ℕ = c.args.job in number) f) ((let named : Names (let sheet : Sheet = c.requires.0 in sheet) (let number : ℕ = c.args.job in number) = omega (arith, c.requires.3) in named) f) in placed) in due)))
+left-requires c =
+    let number : ℕ = c.args.job in
+    let sheet : Sheet = c.requires.0 in
+    let rows : List Entry = c.requires.1 in
+    let says : Says c.args.file.now (good sheet rows) = c.requires.2 in
+    let named : Names sheet number = omega (arith, c.requires.3) in
+    let here : Job = job (sheet f) (number f) in
+    let placed : job_from c.args.file.now (slot_at (number f - 1)) ≡ here = job_placed (says f) (number f) (named f) in
+    let arrives : c.read16-arrives.result ≡ here.arrives = c.read16-arrives.ensures ∙ ap (λ (x : Job). x.arrives) placed in
+    let most : c.read16-most.result ≡ here.most = c.read16-most.ensures ∙ ap (λ (x : Job). x.most) placed in
+    let due : c.read16-due.result ≡ here.due = c.read16-due.ensures ∙ ap (λ (x : Job). x.due) placed in
+    let good_job : GoodJob here = (says f).1.sheet.each (number f) (named f) in
+    let g = good_job in (omega (arith, g.early, arrives, due), omega (arith, g.fits, most, due))
 
 pub returns : goal.returns
 returns c =
+    let number : ℕ = c.args.job in
+    let sheet : Sheet = c.requires.0 in
+    let rows : List Entry = c.requires.1 in
+    let says : Says c.args.file.now (good sheet rows) = c.requires.2 in
+    let named : Names sheet number = omega (arith, c.requires.3) in
+    let here : Job = job (sheet f) (number f) in
+    let placed : job_from c.args.file.now (slot_at (number f - 1)) ≡ here = job_placed (says f) (number f) (named f) in
+    let arrives : c.read16-arrives.result ≡ here.arrives = c.read16-arrives.ensures ∙ ap (λ (x : Job). x.arrives) placed in
+    let most : c.read16-most.result ≡ here.most = c.read16-most.ensures ∙ ap (λ (x : Job). x.most) placed in
+    let due : c.read16-due.result ≡ here.due = c.read16-due.ensures ∙ ap (λ (x : Job). x.due) placed in
+    let good_job : GoodJob here = (says f).1.sheet.each (number f) (named f) in
     let a = f c in
-    let g = (let good_job : GoodJob (let here : Job = job ((let sheet : Sheet = c.requires.0 in sheet) f) ((let number : ℕ = c.args.job in number) f) in here) = ((let says : Says c.args.file.now (good (let sheet : Sheet = c.requires.0 in sheet) (let rows : List Entry = c.requires.1 in rows)) = c.requires.2 in says) f).1.sheet.each ((let number : ℕ = c.args.job in number) f) ((let named : Names (let sheet : Sheet = c.requires.0 in sheet) (let number : ℕ = c.args.job in number) = omega (arith, c.requires.3) in named) f) in good_job) in
+    let g = good_job in
     let now = word a / 2 ^ 24 in
-    let fits = left_fits c.read16-arrives.result c.read16-due.result c.read16-most.result now (omega (arith, g.early, (let arrives : c.read16-arrives.result ≡ (let here : Job = job ((let sheet : Sheet = c.requires.0 in sheet) f) ((let number : ℕ = c.args.job in number) f) in here).arrives = c.read16-arrives.ensures ∙ ap (λ (x : Job). x.arrives) (let placed : job_from c.args.file.now (slot_at ((let number : ℕ = c.args.job in number) f - 1)) ≡ (let here : Job = job ((let sheet : Sheet = c.requires.0 in sheet) f) ((let number : ℕ = c.args.job in number) f) in here) = job_placed ((let says : Says c.args.file.now (good (let sheet : Sheet = c.requires.0 in sheet) (let rows : List Entry = c.requires.1 in rows)) = c.requires.2 in says) f) ((let number : ℕ = c.args.job in number) f) ((let named : Names (let sheet : Sheet = c.requires.0 in sheet) (let number : ℕ = c.args.job in number) = omega (arith, c.requires.3) in named) f) in placed) in arrives), (let due : c.read16-due.result ≡ (let here : Job = job ((let sheet : Sheet = c.requires.0 in sheet) f) ((let number : ℕ = c.args.job in number) f) in here).due = c.read16-due.ensures ∙ ap (λ (x : Job). x.due) (let placed : job_from c.args.file.now (slot_at ((let number : ℕ = c.args.job in number) f - 1)) ≡ (let here : Job = job ((let sheet : Sheet = c.requires.0 in sheet) f) ((let number : ℕ = c.args.job in number) f) in here) = job_placed ((let says : Says c.args.file.now (good (let sheet : Sheet = c.requires.0 in sheet) (let rows : List Entry = c.requires.1 in rows)) = c.requires.2 in says) f) ((let number : ℕ = c.args.job in number) f) ((let named : Names (let sheet : Sheet = c.requires.0 in sheet) (let number : ℕ = c.args.job in number) = omega (arith, c.requires.3) in named) f) in placed) in due)))
-    (omega (arith, g.fits, (let most : c.read16-most.result ≡ (let here : Job = job ((let sheet : Sheet = c.requires.0 in sheet) f) ((let number : ℕ = c.args.job in number) f) in here).most = c.read16-most.ensures ∙ ap (λ (x : Job). x.most) (let placed : job_from c.args.file.now (slot_at ((let number : ℕ = c.args.job in number) f - 1)) ≡ (let here : Job = job ((let sheet : Sheet = c.requires.0 in sheet) f) ((let number : ℕ = c.args.job in number) f) in here) = job_placed ((let says : Says c.args.file.now (good (let sheet : Sheet = c.requires.0 in sheet) (let rows : List Entry = c.requires.1 in rows)) = c.requires.2 in says) f) ((let number : ℕ = c.args.job in number) f) ((let named : Names (let sheet : Sheet = c.requires.0 in sheet) (let number : ℕ = c.args.job in number) = omega (arith, c.requires.3) in named) f) in placed) in most), (let due : c.read16-due.result ≡ (let here : Job = job ((let sheet : Sheet = c.requires.0 in sheet) f) ((let number : ℕ = c.args.job in number) f) in here).due = c.read16-due.ensures ∙ ap (λ (x : Job). x.due) (let placed : job_from c.args.file.now (slot_at ((let number : ℕ = c.args.job in number) f - 1)) ≡ (let here : Job = job ((let sheet : Sheet = c.requires.0 in sheet) f) ((let number : ℕ = c.args.job in number) f) in here) = job_placed ((let says : Says c.args.file.now (good (let sheet : Sheet = c.requires.0 in sheet) (let rows : List Entry = c.requires.1 in rows)) = c.requires.2 in says) f) ((let number : ℕ = c.args.job in number) f) ((let named : Names (let sheet : Sheet = c.requires.0 in sheet) (let number : ℕ = c.args.job in number) = omega (arith, c.requires.3) in named) f) in placed) in due))) (search rules) in
-    let left = to_z-of_z w32 c.left.result (rw c.left.ensures fits) ∙ c.left.ensures ∙ (λ i. ticks_left ((let arrives : c.read16-arrives.result ≡ (let here : Job = job ((let sheet : Sheet = c.requires.0 in sheet) f) ((let number : ℕ = c.args.job in number) f) in here).arrives = c.read16-arrives.ensures ∙ ap (λ (x : Job). x.arrives) (let placed : job_from c.args.file.now (slot_at ((let number : ℕ = c.args.job in number) f - 1)) ≡ (let here : Job = job ((let sheet : Sheet = c.requires.0 in sheet) f) ((let number : ℕ = c.args.job in number) f) in here) = job_placed ((let says : Says c.args.file.now (good (let sheet : Sheet = c.requires.0 in sheet) (let rows : List Entry = c.requires.1 in rows)) = c.requires.2 in says) f) ((let number : ℕ = c.args.job in number) f) ((let named : Names (let sheet : Sheet = c.requires.0 in sheet) (let number : ℕ = c.args.job in number) = omega (arith, c.requires.3) in named) f) in placed) in arrives) i) ((let due : c.read16-due.result ≡ (let here : Job = job ((let sheet : Sheet = c.requires.0 in sheet) f) ((let number : ℕ = c.args.job in number) f) in here).due = c.read16-due.ensures ∙ ap (λ (x : Job). x.due) (let placed : job_from c.args.file.now (slot_at ((let number : ℕ = c.args.job in number) f - 1)) ≡ (let here : Job = job ((let sheet : Sheet = c.requires.0 in sheet) f) ((let number : ℕ = c.args.job in number) f) in here) = job_placed ((let says : Says c.args.file.now (good (let sheet : Sheet = c.requires.0 in sheet) (let rows : List Entry = c.requires.1 in rows)) = c.requires.2 in says) f) ((let number : ℕ = c.args.job in number) f) ((let named : Names (let sheet : Sheet = c.requires.0 in sheet) (let number : ℕ = c.args.job in number) = omega (arith, c.requires.3) in named) f) in placed) in due) i) ((let most : c.read16-most.result ≡ (let here : Job = job ((let sheet : Sheet = c.requires.0 in sheet) f) ((let number : ℕ = c.args.job in number) f) in here).most = c.read16-most.ensures ∙ ap (λ (x : Job). x.most) (let placed : job_from c.args.file.now (slot_at ((let number : ℕ = c.args.job in number) f - 1)) ≡ (let here : Job = job ((let sheet : Sheet = c.requires.0 in sheet) f) ((let number : ℕ = c.args.job in number) f) in here) = job_placed ((let says : Says c.args.file.now (good (let sheet : Sheet = c.requires.0 in sheet) (let rows : List Entry = c.requires.1 in rows)) = c.requires.2 in says) f) ((let number : ℕ = c.args.job in number) f) ((let named : Names (let sheet : Sheet = c.requires.0 in sheet) (let number : ℕ = c.args.job in number) = omega (arith, c.requires.3) in named) f) in placed) in most) i) now) in
+    let fits = left_fits c.read16-arrives.result c.read16-due.result c.read16-most.result now (omega (arith, g.early, arrives, due))
+    (omega (arith, g.fits, most, due)) (search rules) in
+    let left = to_z-of_z w32 c.left.result (rw c.left.ensures fits) ∙ c.left.ensures ∙ (λ i. ticks_left (arrives i) (due i) (most i) now) in
     let place = subst (Finds (rows a) (word a)) c.enum_told-1.given.1 (found a) in
     leeway_told (says a) (word a) (number a) (named a) _ place (rw c.status_in.ensures at c.if-status_in-ge2.false) _ left

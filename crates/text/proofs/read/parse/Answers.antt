@@ -22,45 +22,62 @@ returns-then-count-eq-MOST c =
     inr (so_far_full a.text.now l.numbers l.count l.at l.invariant (omega arith) (omega arith), c.refused.ensures)
 
 pub number_at-requires : goal.number_at-requires
-number_at-requires c = (search rules, rw c.end_of_lem.ensures (ending_other c.loop-at.count))
+number_at-requires c = (search rules, rw c.end_of.ensures (ending_other c.loop-at.count))
 
 pub returns-in_default : goal.returns-in_default
 returns-in_default c =
     let l = c.loop-at in
     let a = c.args in
     let n = c.number_at in
-    let e = c.end_of_lem in
-    let f = subst (FoundTo e.result (drop l.at a.text.now)) c.enum_told-1.given.1 n.ensures in
+    let e = c.end_of in
+    let f = subst (FoundTo e.result (drop l.at a.text.now)) c.in_default.is n.ensures in
     let stuck = subst (λ (b : ℕ). FoundTo b (drop l.at a.text.now) Nothing) e.ensures f in
     inr (so_far_stuck a.text.now l.numbers l.count l.at l.invariant (omega arith) stuck, c.refused-in_default.ensures)
 
 pub overflow_add-at : goal.overflow_add-at
-overflow_add-at c = omega (arith, ((let front : Fronted (ending c.loop-at.count) (let ahead : List ℕ = drop c.loop-at.at (let whole : List ℕ = c.args.text.now in whole) in ahead) c.digits-1.given.0.0 c.digits-1.given.0.1.0 = let n = c.number_at in
-    let e = c.end_of_lem in
-    let f = subst (FoundTo e.result (let ahead : List ℕ = drop c.loop-at.at (let whole : List ℕ = c.args.text.now in whole) in ahead)) c.digits-1.given.1 n.ensures in
-    subst (λ (b : ℕ). Fronted b (let ahead : List ℕ = drop c.loop-at.at (let whole : List ℕ = c.args.text.now in whole) in ahead) c.digits-1.given.0.0 c.digits-1.given.0.1.0) e.ensures f in front)).within, (let ahead-length : length (let ahead : List ℕ = drop c.loop-at.at (let whole : List ℕ = c.args.text.now in whole) in ahead) ≡ length (let whole : List ℕ = c.args.text.now in whole) - c.loop-at.at = length-drop c.loop-at.at (let whole : List ℕ = c.args.text.now in whole) in ahead-length))
+overflow_add-at c =
+    let whole : List ℕ = c.args.text.now in
+    let ahead : List ℕ = drop c.loop-at.at whole in
+    let front : Fronted (ending c.loop-at.count) ahead c.in-Digits.digits c.in-Digits.value = let n = c.number_at in
+    let e = c.end_of in
+    let f = subst (FoundTo e.result ahead) c.in-Digits.is n.ensures in
+    subst (λ (b : ℕ). Fronted b ahead c.in-Digits.digits c.in-Digits.value) e.ensures f in
+    let ahead-length : length ahead ≡ length whole - c.loop-at.at = length-drop c.loop-at.at whole in
+    omega (arith, front.within, ahead-length)
 
 pub overflow_add-at-in-loop-at : goal.overflow_add-at-in-loop-at
-overflow_add-at-in-loop-at c = omega (arith, ((let front : Fronted (ending c.loop-at.count) (let ahead : List ℕ = drop c.loop-at.at (let whole : List ℕ = c.args.text.now in whole) in ahead) c.digits-1.given.0.0 c.digits-1.given.0.1.0 = let n = c.number_at in
-    let e = c.end_of_lem in
-    let f = subst (FoundTo e.result (let ahead : List ℕ = drop c.loop-at.at (let whole : List ℕ = c.args.text.now in whole) in ahead)) c.digits-1.given.1 n.ensures in
-    subst (λ (b : ℕ). Fronted b (let ahead : List ℕ = drop c.loop-at.at (let whole : List ℕ = c.args.text.now in whole) in ahead) c.digits-1.given.0.0 c.digits-1.given.0.1.0) e.ensures f in front)).within, (let ahead-length : length (let ahead : List ℕ = drop c.loop-at.at (let whole : List ℕ = c.args.text.now in whole) in ahead) ≡ length (let whole : List ℕ = c.args.text.now in whole) - c.loop-at.at = length-drop c.loop-at.at (let whole : List ℕ = c.args.text.now in whole) in ahead-length))
+overflow_add-at-in-loop-at c =
+    let whole : List ℕ = c.args.text.now in
+    let ahead : List ℕ = drop c.loop-at.at whole in
+    let front : Fronted (ending c.loop-at.count) ahead c.in-Digits.digits c.in-Digits.value = let n = c.number_at in
+    let e = c.end_of in
+    let f = subst (FoundTo e.result ahead) c.in-Digits.is n.ensures in
+    subst (λ (b : ℕ). Fronted b ahead c.in-Digits.digits c.in-Digits.value) e.ensures f in
+    let ahead-length : length ahead ≡ length whole - c.loop-at.at = length-drop c.loop-at.at whole in
+    omega (arith, front.within, ahead-length)
 
 pub loop-at-smaller : goal.loop-at-smaller
-loop-at-smaller c = omega (arith, ((let front : Fronted (ending c.loop-at.count) (let ahead : List ℕ = drop c.loop-at.at (let whole : List ℕ = c.args.text.now in whole) in ahead) c.digits-1.given.0.0 c.digits-1.given.0.1.0 = let n = c.number_at in
-    let e = c.end_of_lem in
-    let f = subst (FoundTo e.result (let ahead : List ℕ = drop c.loop-at.at (let whole : List ℕ = c.args.text.now in whole) in ahead)) c.digits-1.given.1 n.ensures in
-    subst (λ (b : ℕ). Fronted b (let ahead : List ℕ = drop c.loop-at.at (let whole : List ℕ = c.args.text.now in whole) in ahead) c.digits-1.given.0.0 c.digits-1.given.0.1.0) e.ensures f in front)).within, (let ahead-length : length (let ahead : List ℕ = drop c.loop-at.at (let whole : List ℕ = c.args.text.now in whole) in ahead) ≡ length (let whole : List ℕ = c.args.text.now in whole) - c.loop-at.at = length-drop c.loop-at.at (let whole : List ℕ = c.args.text.now in whole) in ahead-length))
+loop-at-smaller c =
+    let whole : List ℕ = c.args.text.now in
+    let ahead : List ℕ = drop c.loop-at.at whole in
+    let front : Fronted (ending c.loop-at.count) ahead c.in-Digits.digits c.in-Digits.value = let n = c.number_at in
+    let e = c.end_of in
+    let f = subst (FoundTo e.result ahead) c.in-Digits.is n.ensures in
+    subst (λ (b : ℕ). Fronted b ahead c.in-Digits.digits c.in-Digits.value) e.ensures f in
+    let ahead-length : length ahead ≡ length whole - c.loop-at.at = length-drop c.loop-at.at whole in
+    omega (arith, front.within, ahead-length)
 
 pub loop-at-preserved : goal.loop-at-preserved
 loop-at-preserved c =
+    let whole : List ℕ = c.args.text.now in
+    let ahead : List ℕ = drop c.loop-at.at whole in
+    let front : Fronted (ending c.loop-at.count) ahead c.in-Digits.digits c.in-Digits.value = let n = c.number_at in
+    let e = c.end_of in
+    let f = subst (FoundTo e.result ahead) c.in-Digits.is n.ensures in
+    subst (λ (b : ℕ). Fronted b ahead c.in-Digits.digits c.in-Digits.value) e.ensures f in
     let l = c.loop-at in
     let a = c.args in
-    let d = c.digits-1.given.0 in
-    so_far_more a.text.now l.numbers l.count l.at l.invariant d.0 d.1.0 (omega (arith, l.invariant.few)) ((let front : Fronted (ending c.loop-at.count) (let ahead : List ℕ = drop c.loop-at.at (let whole : List ℕ = c.args.text.now in whole) in ahead) c.digits-1.given.0.0 c.digits-1.given.0.1.0 = let n = c.number_at in
-    let e = c.end_of_lem in
-    let f = subst (FoundTo e.result (let ahead : List ℕ = drop c.loop-at.at (let whole : List ℕ = c.args.text.now in whole) in ahead)) c.digits-1.given.1 n.ensures in
-    subst (λ (b : ℕ). Fronted b (let ahead : List ℕ = drop c.loop-at.at (let whole : List ℕ = c.args.text.now in whole) in ahead) c.digits-1.given.0.0 c.digits-1.given.0.1.0) e.ensures f in front))
+    so_far_more a.text.now l.numbers l.count l.at l.invariant c.in-Digits.digits c.in-Digits.value (omega (arith, l.invariant.few)) front
 
 pub returns-then-count-eq0 : goal.returns-then-count-eq0
 returns-then-count-eq0 c =
