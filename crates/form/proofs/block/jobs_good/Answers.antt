@@ -9,8 +9,6 @@ use Rattle.blocks.specs.Fields.{slot_at, job_from}
 use Rattle.state.specs.Tell.{tell_yes, tell_no, told_yes, told_no}
 use Rattle.form.proofs.block.jobs_good.Goals as goal
 
-)
-
 pub returns-then-n-lt1 : goal.returns-then-n-lt1
 returns-then-n-lt1 c = tell_no (λ p. omega (arith, p.some))
 
@@ -33,6 +31,7 @@ loop-s-preserved c = (
   search rules,
   below_more _ _ c.loop-s.invariant.1
       (rw c.job_at.ensures at (told_yes c.job_good.ensures (not-false _ c.if-not-job_good.false-raw))),
+)
 
 pub returns : goal.returns
 returns c =

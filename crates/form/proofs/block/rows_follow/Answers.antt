@@ -6,8 +6,6 @@ use Rattle.sheet.specs.ArraysLaws.{length_sheet}
 use Rattle.state.specs.Tell.{tell_no, told_yes, told_no}
 use Rattle.form.proofs.block.rows_follow.Goals as goal
 
-)
-
 pub returns-then-not-count_fits : goal.returns-then-not-count_fits
 returns-then-not-count_fits c = tell_no (λ p. told_no c.count_fits.ensures (not-true _ c.if-not-count_fits.true-raw) p.count)
 
@@ -31,6 +29,7 @@ slots_good-requires c = (
         (not-false _ c.if-not-count_fits.false-raw)).few,
     search rules,
   ),
+)
 
 pub returns : goal.returns
 returns c =

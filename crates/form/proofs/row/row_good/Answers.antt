@@ -26,29 +26,27 @@ returns-in_default c =
     jobs_bad a.jobs a.n a.word a.starts a.code (search rules) (search rules)
     (told_yes c.ends.ensures (not-false _ c.if-not-ends.false-raw))
     (sym c.all_done.ensures ∙ c.if-all_done.false)
-    (subst (Tells (sheet_of a.jobs a.n) (state_of a.word) a.starts a.code a.n) c.enum_told-1.given.1 c.pass.ensures)
+    (subst (Tells (sheet_of a.jobs a.n) (state_of a.word) a.starts a.code a.n) c.in_default.is c.pass.ensures)
 
 pub returns-then-running-elapsed_of : goal.returns-then-running-elapsed_of
 returns-then-running-elapsed_of c =
     let a = c.args in
-    let g = c.running-1.given in
     rest_bad a.jobs a.n a.word a.starts a.code (search rules) (search rules)
     (told_yes c.ends.ensures
     (not-false _ c.if-not-ends.false-raw))
     (sym c.all_done.ensures ∙ c.if-all_done.false)
-    g.0.0 g.0.1.0 g.0.1.1.0
-    (subst (Tells (sheet_of a.jobs a.n) (state_of a.word) a.starts a.code a.n) g.1
+    c.in-Passed.running c.in-Passed.pending c.in-Passed.spent
+    (subst (Tells (sheet_of a.jobs a.n) (state_of a.word) a.starts a.code a.n) c.in-Passed.is
     c.pass.ensures) (rw c.elapsed_of.ensures at c.if-running-elapsed_of.true)
 
 pub returns : goal.returns
 returns c =
     let a = c.args in
-    let g = c.running-1.given in
     rest_row a.jobs a.n a.word a.starts a.code (search rules) (search rules)
     (told_yes c.ends.ensures
     (not-false _ c.if-not-ends.false-raw))
     (sym c.all_done.ensures ∙ c.if-all_done.false)
-    g.0.0 g.0.1.0 g.0.1.1.0
-    (subst (Tells (sheet_of a.jobs a.n) (state_of a.word) a.starts a.code a.n) g.1
+    c.in-Passed.running c.in-Passed.pending c.in-Passed.spent
+    (subst (Tells (sheet_of a.jobs a.n) (state_of a.word) a.starts a.code a.n) c.in-Passed.is
     c.pass.ensures) (rw c.elapsed_of.ensures at c.if-running-elapsed_of.false)
     (search rules) (search rules) c.marks_fit.result c.marks_fit.ensures
