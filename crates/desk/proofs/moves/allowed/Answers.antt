@@ -7,10 +7,10 @@ use Rattle.desk.specs.Moving.{JobFits}
 use Rattle.desk.proofs.moves.allowed.Goals as goal
 
 pub has-requires : goal.has-requires
-has-requires c = subst JobFits c.e-1.given.1 c.requires
+has-requires c = subst JobFits c.in-Start.is c.requires
 
 pub returns-in-Tick : goal.returns-in-Tick
-returns-in-Tick c = rw c.enum_told-1.given.1 refl
+returns-in-Tick c = rw c.in-Tick.is refl
 
 pub returns-in-Start : goal.returns-in-Start
-returns-in-Start c = rw c.e-1.given.1 (same_test c.has.ensures (is_eq _ 1))
+returns-in-Start c = rw c.in-Start.is (same_test c.has.ensures (is_eq _ 1))

@@ -49,7 +49,7 @@ returns-then-not-names c =
     let rows : List Entry = c.requires.1 in
     let desk : Desk = c.args.desk in
     let event : Option Event = kind_of c.event_of-e.result in
-    let names-is : on false (names sheet) event ≡ c.names.result = sym (c.names.ensures sheet (jobs_number (says (c)))) in
+    let names-is : on false (names sheet) event ≡ c.names.result = sym (c.names.ensures sheet (jobs_number says)) in
     let n = names-is ∙ not-true _ c.if-not-names.true-raw in
     replies c (c.refused.ensures ∙ nine sheet rows desk event n)
 
@@ -57,12 +57,13 @@ pub returns-then-not-known : goal.returns-then-not-known
 returns-then-not-known c =
     let says : Says c.args.file.now (good c.requires.0 c.requires.1) = said c.args.file.now (λ i. omega (arith, c.shared_slice_known-1.given i)) c.requires.2 in
     let sheet : Sheet = c.requires.0 in
+    let rows : List Entry = c.requires.1 in
+    let desk : Desk = c.args.desk in
     let event : Option Event = kind_of c.event_of-e.result in
-    let names-is : on false (names sheet) event ≡ c.names.result = sym (c.names.ensures sheet (jobs_number (says (c)))) in
-    let named : on false (names (sheet ask)) (event ask) ≡ true = names-is ∙ not-false _ c.if-not-names.false-raw in
-    let a = ask c in
+    let names-is : on false (names sheet) event ≡ c.names.result = sym (c.names.ensures sheet (jobs_number says)) in
+    let named : on false (names sheet) event ≡ true = names-is ∙ not-false _ c.if-not-names.false-raw in
     let k = told_no c.known.ensures (not-true _ c.if-not-known.true-raw) in
-    replies a (c.refused-then-not-known.ensures ∙ eight_unknown (sheet a) (rows a) (desk a) (event a) named (is_false (is_known _) k))
+    replies c (c.refused-then-not-known.ensures ∙ eight_unknown sheet rows desk event named (is_false (is_known _) k))
 
 pub returns-then-told-ne0 : goal.returns-then-told-ne0
 returns-then-told-ne0 c =
@@ -72,35 +73,36 @@ returns-then-told-ne0 c =
     let desk : Desk = c.args.desk in
     let row : RowReply = c.args.told in
     let event : Option Event = kind_of c.event_of-e.result in
-    let names-is : on false (names sheet) event ≡ c.names.result = sym (c.names.ensures sheet (jobs_number (says (c)))) in
-    let named : on false (names (sheet ask)) (event ask) ≡ true = names-is ∙ not-false _ c.if-not-names.false-raw in
-    let all_known : Known (desk asks).statuses = told_yes c.known.ensures (not-false _ c.if-not-known.false-raw) in
-    let is-all-known : known (desk asks).statuses ≡ true = is_true (is_known _) all_known in
-    let its-row : row asks ≡ lookup (word (state_in (desk asks))) (rows asks) = (start asks).pre.3 all_known in
-    let a = asks c in
+    let names-is : on false (names sheet) event ≡ c.names.result = sym (c.names.ensures sheet (jobs_number says)) in
+    let named : on false (names sheet) event ≡ true = names-is ∙ not-false _ c.if-not-names.false-raw in
+    let all_known : Known desk.statuses = told_yes c.known.ensures (not-false _ c.if-not-known.false-raw) in
+    let is-all-known : known desk.statuses ≡ true = is_true (is_known _) all_known in
+    let its-row : row ≡ lookup (word (state_in desk)) rows = (c c).pre.3 all_known in
     let n = named in
-    replies a (c.refused-then-told-ne0.ensures ∙ eight (sheet a) (rows a) (desk a) (row a) its-row is-all-known (event a) n c.if-told-ne0.true)
+    replies c (c.refused-then-told-ne0.ensures ∙ eight sheet rows desk row its-row is-all-known event n c.if-told-ne0.true)
 
 pub slice_bounds-jobs_of-end : goal.slice_bounds-jobs_of-end
 slice_bounds-jobs_of-end c =
-    let a = c in
-    let s = says (first a) in
-    omega (arith, s.0.whole, s.0.long, length-take block_bytes (start a).args.file.now)
+    let says : Says c.args.file.now (good c.requires.0 c.requires.1) = said c.args.file.now (λ i. omega (arith, c.shared_slice_known-1.given i)) c.requires.2 in
+    let s = says in
+    omega (arith, s.0.whole, s.0.long, length-take block_bytes c.args.file.now)
 
 pub jobs_of-jobs-requires : goal.jobs_of-jobs-requires
 jobs_of-jobs-requires c =
-    let a = c in
-    let s = says (first a) in
-    omega (arith, s.0.whole, s.0.long, length-take block_bytes (start a).args.file.now)
+    let says : Says c.args.file.now (good c.requires.0 c.requires.1) = said c.args.file.now (λ i. omega (arith, c.shared_slice_known-1.given i)) c.requires.2 in
+    let s = says in
+    omega (arith, s.0.whole, s.0.long, length-take block_bytes c.args.file.now)
 
 pub overflow_cast-n : goal.overflow_cast-n
 overflow_cast-n c =
-    let s = says (first (c)) in
+    let says : Says c.args.file.now (good c.requires.0 c.requires.1) = said c.args.file.now (λ i. omega (arith, c.shared_slice_known-1.given i)) c.requires.2 in
+    let s = says in
     record { fits = omega (arith, s.1.sheet.few_jobs, jobs_number s) }
 
 pub look_at-requires : goal.look_at-requires
 look_at-requires c =
-    let s = says (first (c)) in
+    let says : Says c.args.file.now (good c.requires.0 c.requires.1) = said c.args.file.now (λ i. omega (arith, c.shared_slice_known-1.given i)) c.requires.2 in
+    let s = says in
     omega (arith, s.1.sheet.few_jobs, jobs_number s)
 
 pub may-requires : goal.may-requires
@@ -108,99 +110,119 @@ may-requires c =
     let says : Says c.args.file.now (good c.requires.0 c.requires.1) = said c.args.file.now (λ i. omega (arith, c.shared_slice_known-1.given i)) c.requires.2 in
     let sheet : Sheet = c.requires.0 in
     let event : Option Event = kind_of c.event_of-e.result in
-    let names-is : on false (names sheet) event ≡ c.names.result = sym (c.names.ensures sheet (jobs_number (says (c)))) in
-    let named : on false (names (sheet ask)) (event ask) ≡ true = names-is ∙ not-false _ c.if-not-names.false-raw in
-    let a = asks c in
-    job_fits (sheet a) (says (first a)).1.sheet.few_jobs a.event_of.result named
+    let names-is : on false (names sheet) event ≡ c.names.result = sym (c.names.ensures sheet (jobs_number says)) in
+    let named : on false (names sheet) event ≡ true = names-is ∙ not-false _ c.if-not-names.false-raw in
+    job_fits sheet says.1.sheet.few_jobs c.event_of-e.result named
 
 pub returns-then-not-may : goal.returns-then-not-may
 returns-then-not-may c =
     let says : Says c.args.file.now (good c.requires.0 c.requires.1) = said c.args.file.now (λ i. omega (arith, c.shared_slice_known-1.given i)) c.requires.2 in
     let sheet : Sheet = c.requires.0 in
+    let rows : List Entry = c.requires.1 in
     let desk : Desk = c.args.desk in
+    let row : RowReply = c.args.told in
     let event : Option Event = kind_of c.event_of-e.result in
-    let asked_of : tie.After-event-of = asks knows in
+    let names-is : on false (names sheet) event ≡ c.names.result = sym (c.names.ensures sheet (jobs_number says)) in
+    let named : on false (names sheet) event ≡ true = names-is ∙ not-false _ c.if-not-names.false-raw in
+    let all_known : Known desk.statuses = told_yes c.known.ensures (not-false _ c.if-not-known.false-raw) in
+    let is-all-known : known desk.statuses ≡ true = is_true (is_known _) all_known in
+    let its-row : row ≡ lookup (word (state_in desk)) rows = (c c).pre.3 all_known in
+    let asked_of : tie.After-event-of = c c in
     let possible-is : on false (possible (sheet asked_of) (state_in (desk asked_of))) (event asked_of) ≡ c.may.result = let q = c.state_in-s in
-    let l = looked (says (first asked_of)) (model q.result) c.jobs_of-jobs.ensures c.look_at.ensures in
+    let l = looked (says (c asked_of)) (model q.result) c.jobs_of-jobs.ensures c.look_at.ensures in
     rw q.ensures at (sym (c.may.ensures (sheet asked_of) q.result l)) in
-    let y = knows c in
-    let a = asks y in
     let z = c.if-told-ne0.false in
-    let n = named y.before.before in
+    let n = named in
     let p = possible-is ∙ not-true _ c.if-not-may.true-raw in
-    replies a (c.refused-then-not-may.ensures ∙ ten (sheet a) (rows a) (desk a) (row a) (its-row y) (is-all-known y) z (event a) n p)
+    replies c (c.refused-then-not-may.ensures ∙ ten sheet rows desk row its-row is-all-known z event n p)
 
 pub allowed-requires : goal.allowed-requires
 allowed-requires c =
-    let y = found.before.before.before in
-    let a = asks y in
-    job_fits (sheet a) (says (first a)).1.sheet.few_jobs a.event_of.result (named y.before.before)
+    let says : Says c.args.file.now (good c.requires.0 c.requires.1) = said c.args.file.now (λ i. omega (arith, c.shared_slice_known-1.given i)) c.requires.2 in
+    let sheet : Sheet = c.requires.0 in
+    let event : Option Event = kind_of c.event_of-e.result in
+    let names-is : on false (names sheet) event ≡ c.names.result = sym (c.names.ensures sheet (jobs_number says)) in
+    let named : on false (names sheet) event ≡ true = names-is ∙ not-false _ c.if-not-names.false-raw in
+    job_fits sheet says.1.sheet.few_jobs c.event_of-e.result named
 
 pub returns-then-not-allowed : goal.returns-then-not-allowed
 returns-then-not-allowed c =
     let says : Says c.args.file.now (good c.requires.0 c.requires.1) = said c.args.file.now (λ i. omega (arith, c.shared_slice_known-1.given i)) c.requires.2 in
     let sheet : Sheet = c.requires.0 in
-    let desk : Desk = c.args.desk in
-    let event : Option Event = kind_of c.event_of-e.result in
-    let asked_of : tie.After-event-of = asks knows in
-    let possible-is : on false (possible (sheet asked_of) (state_in (desk asked_of))) (event asked_of) ≡ c.may.result = let q = c.state_in-s in
-    let l = looked (says (first asked_of)) (model q.result) c.jobs_of-jobs.ensures c.look_at.ensures in
-    rw q.ensures at (sym (c.may.ensures (sheet asked_of) q.result l)) in
-    let may-be : tie.After-event-of = asked_of in
-    let can-be : on false (possible (sheet may-be) (state_in (desk may-be))) (event may-be) ≡ true = possible-is ∙ not-false _ c.if-not-may.false-raw in
-    let y = knows c in
-    let a = asks y in
-    let z = c.if-told-ne0.false in
-    let n = named y.before.before in
-    let w = sym c.allowed.ensures ∙ not-true _ c.if-not-allowed.true-raw in
-    replies a (c.refused-then-not-allowed.ensures ∙ eleven (sheet a) (rows a) (desk a) (row a) (its-row y) (is-all-known y) z (event a) n can-be w)
-
-pub after-requires : goal.after-requires
-after-requires c =
-    let says : Says c.args.file.now (good c.requires.0 c.requires.1) = said c.args.file.now (λ i. omega (arith, c.shared_slice_known-1.given i)) c.requires.2 in
-    let sheet : Sheet = c.requires.0 in
+    let rows : List Entry = c.requires.1 in
     let desk : Desk = c.args.desk in
     let row : RowReply = c.args.told in
     let event : Option Event = kind_of c.event_of-e.result in
-    let asked_of : tie.After-event-of = asks knows in
+    let names-is : on false (names sheet) event ≡ c.names.result = sym (c.names.ensures sheet (jobs_number says)) in
+    let named : on false (names sheet) event ≡ true = names-is ∙ not-false _ c.if-not-names.false-raw in
+    let all_known : Known desk.statuses = told_yes c.known.ensures (not-false _ c.if-not-known.false-raw) in
+    let is-all-known : known desk.statuses ≡ true = is_true (is_known _) all_known in
+    let its-row : row ≡ lookup (word (state_in desk)) rows = (c c).pre.3 all_known in
+    let asked_of : tie.After-event-of = c c in
     let possible-is : on false (possible (sheet asked_of) (state_in (desk asked_of))) (event asked_of) ≡ c.may.result = let q = c.state_in-s in
-    let l = looked (says (first asked_of)) (model q.result) c.jobs_of-jobs.ensures c.look_at.ensures in
+    let l = looked (says (c asked_of)) (model q.result) c.jobs_of-jobs.ensures c.look_at.ensures in
+    rw q.ensures at (sym (c.may.ensures (sheet asked_of) q.result l)) in
+    let may-be : tie.After-event-of = asked_of in
+    let can-be : on false (possible (sheet may-be) (state_in (desk may-be))) (event may-be) ≡ true = possible-is ∙ not-false _ c.if-not-may.false-raw in
+    let z = c.if-told-ne0.false in
+    let n = named in
+    let w = sym c.allowed.ensures ∙ not-true _ c.if-not-allowed.true-raw in
+    replies c (c.refused-then-not-allowed.ensures ∙ eleven sheet rows desk row its-row is-all-known z event n can-be w)
+
+pub after-requires : goal.after-requires
+after-requires c =
+    let desk-fits : (c.args.desk.now < 256) × (c.args.desk.elapsed < 256) × (length c.args.desk.statuses ≡ 8) = (omega (arith, c.well-formed.1.1.0), omega (arith, c.well-formed.1.1.0), search (rules, c.well-formed.1.1.0)) in
+    let says : Says c.args.file.now (good c.requires.0 c.requires.1) = said c.args.file.now (λ i. omega (arith, c.shared_slice_known-1.given i)) c.requires.2 in
+    let sheet : Sheet = c.requires.0 in
+    let rows : List Entry = c.requires.1 in
+    let desk : Desk = c.args.desk in
+    let row : RowReply = c.args.told in
+    let event : Option Event = kind_of c.event_of-e.result in
+    let names-is : on false (names sheet) event ≡ c.names.result = sym (c.names.ensures sheet (jobs_number says)) in
+    let named : on false (names sheet) event ≡ true = names-is ∙ not-false _ c.if-not-names.false-raw in
+    let all_known : Known desk.statuses = told_yes c.known.ensures (not-false _ c.if-not-known.false-raw) in
+    let its-row : row ≡ lookup (word (state_in desk)) rows = (c c).pre.3 all_known in
+    let asked_of : tie.After-event-of = c c in
+    let possible-is : on false (possible (sheet asked_of) (state_in (desk asked_of))) (event asked_of) ≡ c.may.result = let q = c.state_in-s in
+    let l = looked (says (c asked_of)) (model q.result) c.jobs_of-jobs.ensures c.look_at.ensures in
     rw q.ensures at (sym (c.may.ensures (sheet asked_of) q.result l)) in
     let may-be : tie.After-event-of = asked_of in
     let can-be : on false (possible (sheet may-be) (state_in (desk may-be))) (event may-be) ≡ true = possible-is ∙ not-false _ c.if-not-may.false-raw in
     let is-asked : tie.After-event-of = may-be in
     let is-allowed : on false (allows (row is-asked).starts (row is-asked).tick) (event is-asked) ≡ true = sym c.allowed.ensures ∙ not-false _ c.if-not-allowed.false-raw in
     let q = c.state_in-s in
-    let y = knows c in
-    let a = asks y in
-    let s = says (first a) in
+    let s = says in
     let z = c.if-told-ne0.false in
-    let n = named y.before.before in (
+    let n = named in (
       omega (arith, s.1.sheet.few_jobs, jobs_number s),
-      fits_in (sheet a) (rows a) s.1.sheet s.1.form (desk a) (desk-fits (start a)) (all_known y)
-          (row a) (its-row y) z a.event_of.result q.result q.ensures n can-be is-allowed,
+      fits_in sheet rows s.1.sheet s.1.form desk desk-fits all_known
+          row its-row z c.event_of-e.result q.result q.ensures n can-be is-allowed,
     )
 
 pub returns : goal.returns
 returns c =
     let says : Says c.args.file.now (good c.requires.0 c.requires.1) = said c.args.file.now (λ i. omega (arith, c.shared_slice_known-1.given i)) c.requires.2 in
     let sheet : Sheet = c.requires.0 in
+    let rows : List Entry = c.requires.1 in
     let desk : Desk = c.args.desk in
     let row : RowReply = c.args.told in
     let event : Option Event = kind_of c.event_of-e.result in
-    let asked_of : tie.After-event-of = asks knows in
+    let names-is : on false (names sheet) event ≡ c.names.result = sym (c.names.ensures sheet (jobs_number says)) in
+    let named : on false (names sheet) event ≡ true = names-is ∙ not-false _ c.if-not-names.false-raw in
+    let all_known : Known desk.statuses = told_yes c.known.ensures (not-false _ c.if-not-known.false-raw) in
+    let is-all-known : known desk.statuses ≡ true = is_true (is_known _) all_known in
+    let its-row : row ≡ lookup (word (state_in desk)) rows = (c c).pre.3 all_known in
+    let asked_of : tie.After-event-of = c c in
     let possible-is : on false (possible (sheet asked_of) (state_in (desk asked_of))) (event asked_of) ≡ c.may.result = let q = c.state_in-s in
-    let l = looked (says (first asked_of)) (model q.result) c.jobs_of-jobs.ensures c.look_at.ensures in
+    let l = looked (says (c asked_of)) (model q.result) c.jobs_of-jobs.ensures c.look_at.ensures in
     rw q.ensures at (sym (c.may.ensures (sheet asked_of) q.result l)) in
     let may-be : tie.After-event-of = asked_of in
     let can-be : on false (possible (sheet may-be) (state_in (desk may-be))) (event may-be) ≡ true = possible-is ∙ not-false _ c.if-not-may.false-raw in
     let is-asked : tie.After-event-of = may-be in
     let is-allowed : on false (allows (row is-asked).starts (row is-asked).tick) (event is-asked) ≡ true = sym c.allowed.ensures ∙ not-false _ c.if-not-allowed.false-raw in
     let q = c.state_in-s in
-    let y = knows c in
-    let a = asks y in
     let z = c.if-told-ne0.false in
-    let n = named y.before.before in
-    let g = rw q.ensures at (c.after.ensures (sheet a) (jobs_number (says (first a)))) in
-    replies a (ap moved c.desk_of-next.ensures
-    ∙ taken (sheet a) (rows a) (desk a) (row a) (its-row y) (is-all-known y) z (event a) n can-be is-allowed _ g)
+    let n = named in
+    let g = rw q.ensures at (c.after.ensures sheet (jobs_number says)) in
+    replies c (ap moved c.desk_of-next.ensures
+    ∙ taken sheet rows desk row its-row is-all-known z event n can-be is-allowed _ g)

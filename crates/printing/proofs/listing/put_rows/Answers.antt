@@ -16,8 +16,7 @@ loop-i-init c = let a = c.args in (search rules, (search rules, rw (lines_none a
 pub put_row_at-next-requires : goal.put_row_at-next-requires
 put_row_at-next-requires c =
     let l = c.loop-i in
-    let p = c.requires in
-    record { n_le_most_jobs = (search rules, omega (arith, printed_length l.invariant.1.1, l.invariant.1.0)); i_lt_most_rows = (omega arith, p.1 l.i (search rules)) }
+    record { n_le_most_jobs = (search rules, omega (arith, printed_length l.invariant.1.1, l.invariant.1.0)); i_lt_most_rows = (omega arith, c.requires.by_index l.i (search rules)) }
 
 pub loop-i-preserved : goal.loop-i-preserved
 loop-i-preserved c =

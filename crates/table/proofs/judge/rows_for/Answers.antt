@@ -68,7 +68,7 @@ overflow_sub-rows c =
     let b : ℕ = c.loop-passed.passed + 1 in
     let opens : Opens file = c.requires in
     let jobs : sheet_of c.jobs_of-jobs.result (get_or (block_at file 0) 3 0) ≡ jobs_in (block_at file 0) = sheet_is _ _ _ c.jobs_of-jobs.ensures refl opens.1.few in
-    let good : RowsBlock (jobs_in (block_at (file d) 0)) (total (file d)) (b d) (before (file d) (b d)) (block_at (file d) (b d)) = block_good (file d) _ _ _ (jobs d) c.rows_good.ensures (not-false _ c.if-not-rows_good.false-raw) in
+    let good : RowsBlock (jobs_in (block_at file 0)) (total file) b (before file b) (block_at file b) = block_good file _ _ _ jobs c.rows_good.ensures (not-false _ c.if-not-rows_good.false-raw) in
     omega (arith, good.count.some, c.rows_to-rows.ensures)
 
 pub word_at-requires : goal.word_at-requires
@@ -80,10 +80,10 @@ word_at-requires c =
     let past : Past file word b = c.loop-passed.invariant.1 in
     let within : b < total file = omega arith in
     let jobs : sheet_of c.jobs_of-jobs.result (get_or (block_at file 0) 3 0) ≡ jobs_in (block_at file 0) = sheet_is _ _ _ c.jobs_of-jobs.ensures refl opens.1.few in
-    let good : RowsBlock (jobs_in (block_at (file d) 0)) (total (file d)) (b d) (before (file d) (b d)) (block_at (file d) (b d)) = block_good (file d) _ _ _ (jobs d) c.rows_good.ensures (not-false _ c.if-not-rows_good.false-raw) in
-    let read : ReadTo (file d) (b d) c.rows_to-rows.result = next_read (file d) (word d) (opens d).0 (b d) (past d) (within d)
+    let good : RowsBlock (jobs_in (block_at file 0)) (total file) b (before file b) (block_at file b) = block_good file _ _ _ jobs c.rows_good.ensures (not-false _ c.if-not-rows_good.false-raw) in
+    let read : ReadTo file b c.rows_to-rows.result = next_read file word opens.0 b past within
     (λ i. omega (arith, c.shared_slice_known-1.given i)) good _ c.rows_to-rows.ensures in
-    let e = d c in last_there (file e) (word e) (opens e).0 (b e) (past e) (within e) _ read
+    last_there file word opens.0 b past within _ read
 
 pub overflow_cast-result-then-word-word_at : goal.overflow_cast-result-then-word-word_at
 overflow_cast-result-then-word-word_at c =
@@ -94,11 +94,10 @@ overflow_cast-result-then-word-word_at c =
     let past : Past file word b = c.loop-passed.invariant.1 in
     let within : b < total file = omega arith in
     let jobs : sheet_of c.jobs_of-jobs.result (get_or (block_at file 0) 3 0) ≡ jobs_in (block_at file 0) = sheet_is _ _ _ c.jobs_of-jobs.ensures refl opens.1.few in
-    let good : RowsBlock (jobs_in (block_at (file d) 0)) (total (file d)) (b d) (before (file d) (b d)) (block_at (file d) (b d)) = block_good (file d) _ _ _ (jobs d) c.rows_good.ensures (not-false _ c.if-not-rows_good.false-raw) in
-    let read : ReadTo (file d) (b d) c.rows_to-rows.result = next_read (file d) (word d) (opens d).0 (b d) (past d) (within d)
+    let good : RowsBlock (jobs_in (block_at file 0)) (total file) b (before file b) (block_at file b) = block_good file _ _ _ jobs c.rows_good.ensures (not-false _ c.if-not-rows_good.false-raw) in
+    let read : ReadTo file b c.rows_to-rows.result = next_read file word opens.0 b past within
     (λ i. omega (arith, c.shared_slice_known-1.given i)) good _ c.rows_to-rows.ensures in
-    let e = d c in
-    omega (arith, (last_there (file e) (word e) (opens e).0 (b e) (past e) (within e) _ read).0)
+    omega (arith, (last_there file word opens.0 b past within _ read).0)
 
 pub returns-then-word-word_at : goal.returns-then-word-word_at
 returns-then-word-word_at c =
@@ -109,11 +108,10 @@ returns-then-word-word_at c =
     let past : Past file word b = c.loop-passed.invariant.1 in
     let within : b < total file = omega arith in
     let jobs : sheet_of c.jobs_of-jobs.result (get_or (block_at file 0) 3 0) ≡ jobs_in (block_at file 0) = sheet_is _ _ _ c.jobs_of-jobs.ensures refl opens.1.few in
-    let good : RowsBlock (jobs_in (block_at (file d) 0)) (total (file d)) (b d) (before (file d) (b d)) (block_at (file d) (b d)) = block_good (file d) _ _ _ (jobs d) c.rows_good.ensures (not-false _ c.if-not-rows_good.false-raw) in
-    let read : ReadTo (file d) (b d) c.rows_to-rows.result = next_read (file d) (word d) (opens d).0 (b d) (past d) (within d)
+    let good : RowsBlock (jobs_in (block_at file 0)) (total file) b (before file b) (block_at file b) = block_good file _ _ _ jobs c.rows_good.ensures (not-false _ c.if-not-rows_good.false-raw) in
+    let read : ReadTo file b c.rows_to-rows.result = next_read file word opens.0 b past within
     (λ i. omega (arith, c.shared_slice_known-1.given i)) good _ c.rows_to-rows.ensures in
-    let e = d c in
-    next_stops (file e) (word e) (opens e).0 (b e) (past e) (within e) _ read (omega (arith, c.word_at.ensures, c.if-word-word_at.true))
+    next_stops file word opens.0 b past within _ read (omega (arith, c.word_at.ensures, c.if-word-word_at.true))
 
 pub loop-passed-preserved : goal.loop-passed-preserved
 loop-passed-preserved c =
@@ -124,11 +122,10 @@ loop-passed-preserved c =
     let past : Past file word b = c.loop-passed.invariant.1 in
     let within : b < total file = omega arith in
     let jobs : sheet_of c.jobs_of-jobs.result (get_or (block_at file 0) 3 0) ≡ jobs_in (block_at file 0) = sheet_is _ _ _ c.jobs_of-jobs.ensures refl opens.1.few in
-    let good : RowsBlock (jobs_in (block_at (file d) 0)) (total (file d)) (b d) (before (file d) (b d)) (block_at (file d) (b d)) = block_good (file d) _ _ _ (jobs d) c.rows_good.ensures (not-false _ c.if-not-rows_good.false-raw) in
-    let read : ReadTo (file d) (b d) c.rows_to-rows.result = next_read (file d) (word d) (opens d).0 (b d) (past d) (within d)
+    let good : RowsBlock (jobs_in (block_at file 0)) (total file) b (before file b) (block_at file b) = block_good file _ _ _ jobs c.rows_good.ensures (not-false _ c.if-not-rows_good.false-raw) in
+    let read : ReadTo file b c.rows_to-rows.result = next_read file word opens.0 b past within
     (λ i. omega (arith, c.shared_slice_known-1.given i)) good _ c.rows_to-rows.ensures in
-    let e = d c in
-    (omega arith, next_past (file e) (word e) (opens e).0 (b e) (past e) (within e) _ read (omega (arith, c.word_at.ensures, c.if-word-word_at.false)))
+    (omega arith, next_past file word opens.0 b past within _ read (omega (arith, c.word_at.ensures, c.if-word-word_at.false)))
 
 pub count_rows-all-requires : goal.count_rows-all-requires
 count_rows-all-requires c = c.requires.0

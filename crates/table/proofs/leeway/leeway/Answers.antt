@@ -17,14 +17,14 @@ pub bounds-file-3 : goal.bounds-file-3
 bounds-file-3 c =
     let file : List ℕ = c.args.file.now in
     let judged : Judged file past_all c.read_for-judgement.result = c.read_for-judgement.ensures in
-    let s = (subst (Judged file past_all) c.judgement-in-Good-1.given.1 judged).2.1 in
+    let s = (subst (Judged file past_all) c.in-Good.is judged).2.1 in
     omega (arith, s.whole, s.long)
 
 pub leeway_in-requires : goal.leeway_in-requires
 leeway_in-requires c =
     let file : List ℕ = c.args.file.now in
     let judged : Judged file past_all c.read_for-judgement.result = c.read_for-judgement.ensures in
-    whole_counts file _ _ refl (subst (Judged file past_all) c.judgement-in-Good-1.given.1 judged)
+    whole_counts file _ _ refl (subst (Judged file past_all) c.in-Good.is judged)
 
 pub returns-in-Bad : goal.returns-in-Bad
 returns-in-Bad c =
@@ -32,7 +32,7 @@ returns-in-Bad c =
     let small : EachByte file = λ i. omega (arith, c.shared_slice_known-1.given i) in
     let judged : Judged file past_all c.read_for-judgement.result = c.read_for-judgement.ensures in
     let a = c.args in
-    let b = subst (Judged file past_all) c.judgement-1.given.1 judged in
+    let b = subst (Judged file past_all) c.in-Bad.is judged in
     answer_is file small (leeway_reply a.word a.job) _ (bad _, read_whole file (bad _) b, c.refusal.ensures)
 
 pub returns-in-Good : goal.returns-in-Good

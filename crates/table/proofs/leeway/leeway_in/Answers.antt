@@ -36,7 +36,7 @@ returns-in_default c =
     let says : Says c.args.file.now (good sheet rows) = c.requires.2 in
     let named : Names sheet number = omega (arith, c.requires.3) in
     let found : Finds rows word c.find.result = c.find.ensures (total c.args.file.now - 1) sheet rows says.1 c.requires.4 in
-    rw c.refusal-in_default.ensures (leeway_eight says word number named (subst (Finds rows word) c.enum_told-in_default-1.given.1 found))
+    rw c.refusal-in_default.ensures (leeway_eight says word number named (subst (Finds rows word) c.in_default.is found))
 
 pub overflow_cast-job : goal.overflow_cast-job
 overflow_cast-job c =
@@ -65,7 +65,7 @@ returns-then-status_in-ge2 c =
     let says : Says c.args.file.now (good sheet rows) = c.requires.2 in
     let named : Names sheet number = omega (arith, c.requires.3) in
     let found : Finds rows word c.find.result = c.find.ensures (total c.args.file.now - 1) sheet rows says.1 c.requires.4 in
-    let f = subst (Finds rows word) c.enum_told-1.given.1 found in
+    let f = subst (Finds rows word) c.in-At.is found in
     rw c.refusal-then-status_in-ge2.ensures (leeway_twelve says word number named _ f (rw c.status_in.ensures at c.if-status_in-ge2.true))
 
 pub left-requires : goal.left-requires
@@ -75,32 +75,33 @@ left-requires c =
     let rows : List Entry = c.requires.1 in
     let says : Says c.args.file.now (good sheet rows) = c.requires.2 in
     let named : Names sheet number = omega (arith, c.requires.3) in
-    let here : Job = job (sheet f) (number f) in
-    let placed : job_from c.args.file.now (slot_at (number f - 1)) ≡ here = job_placed (says f) (number f) (named f) in
+    let here : Job = job sheet number in
+    let placed : job_from c.args.file.now (slot_at (number - 1)) ≡ here = job_placed says number named in
     let arrives : c.read16-arrives.result ≡ here.arrives = c.read16-arrives.ensures ∙ ap (λ (x : Job). x.arrives) placed in
     let most : c.read16-most.result ≡ here.most = c.read16-most.ensures ∙ ap (λ (x : Job). x.most) placed in
     let due : c.read16-due.result ≡ here.due = c.read16-due.ensures ∙ ap (λ (x : Job). x.due) placed in
-    let good_job : GoodJob here = (says f).1.sheet.each (number f) (named f) in
+    let good_job : GoodJob here = says.1.sheet.each number named in
     let g = good_job in (omega (arith, g.early, arrives, due), omega (arith, g.fits, most, due))
 
 pub returns : goal.returns
 returns c =
+    let word : ℕ = c.args.word in
     let number : ℕ = c.args.job in
     let sheet : Sheet = c.requires.0 in
     let rows : List Entry = c.requires.1 in
     let says : Says c.args.file.now (good sheet rows) = c.requires.2 in
     let named : Names sheet number = omega (arith, c.requires.3) in
-    let here : Job = job (sheet f) (number f) in
-    let placed : job_from c.args.file.now (slot_at (number f - 1)) ≡ here = job_placed (says f) (number f) (named f) in
+    let found : Finds rows word c.find.result = c.find.ensures (total c.args.file.now - 1) sheet rows says.1 c.requires.4 in
+    let here : Job = job sheet number in
+    let placed : job_from c.args.file.now (slot_at (number - 1)) ≡ here = job_placed says number named in
     let arrives : c.read16-arrives.result ≡ here.arrives = c.read16-arrives.ensures ∙ ap (λ (x : Job). x.arrives) placed in
     let most : c.read16-most.result ≡ here.most = c.read16-most.ensures ∙ ap (λ (x : Job). x.most) placed in
     let due : c.read16-due.result ≡ here.due = c.read16-due.ensures ∙ ap (λ (x : Job). x.due) placed in
-    let good_job : GoodJob here = (says f).1.sheet.each (number f) (named f) in
-    let a = f c in
+    let good_job : GoodJob here = says.1.sheet.each number named in
     let g = good_job in
-    let now = word a / 2 ^ 24 in
+    let now = word / 2 ^ 24 in
     let fits = left_fits c.read16-arrives.result c.read16-due.result c.read16-most.result now (omega (arith, g.early, arrives, due))
     (omega (arith, g.fits, most, due)) (search rules) in
     let left = to_z-of_z w32 c.left.result (rw c.left.ensures fits) ∙ c.left.ensures ∙ (λ i. ticks_left (arrives i) (due i) (most i) now) in
-    let place = subst (Finds (rows a) (word a)) c.enum_told-1.given.1 (found a) in
-    leeway_told (says a) (word a) (number a) (named a) _ place (rw c.status_in.ensures at c.if-status_in-ge2.false) _ left
+    let place = subst (Finds rows word) c.in-At.is found in
+    leeway_told says word number named _ place (rw c.status_in.ensures at c.if-status_in-ge2.false) _ left

@@ -13,17 +13,17 @@ find-requires c = c.requires
 pub returns-in_default : goal.returns-in_default
 returns-in_default c =
     λ k σ rows r e. sym (lookup_none c.args.word rows
-    (subst (Finds rows c.args.word) c.enum_told-1.given.1 (c.find.ensures k σ rows r e)))
+    (subst (Finds rows c.args.word) c.in_default.is (c.find.ensures k σ rows r e)))
 
 pub row_at-requires : goal.row_at-requires
 row_at-requires c =
     let p = c.requires in
-    let f = subst (Finds p.2 c.args.word) c.i-1.given.1 (c.find.ensures p.0 p.1 p.2 p.4 p.5) in
+    let f = subst (Finds p.2 c.args.word) c.in-At.is (c.find.ensures p.0 p.1 p.2 p.4 p.5) in
     (omega (arith, f.0, read_few p.3 p.4), lies_end p.3 p.4 _ f.0)
 
 pub returns : goal.returns
 returns c =
     λ k σ rows r e. c.row_at.ensures ∙ lookup_found c.requires.3 r
     c.args.word _
-    (subst (Finds rows c.args.word) c.i-1.given.1
+    (subst (Finds rows c.args.word) c.in-At.is
     (c.find.ensures k σ rows r e))
