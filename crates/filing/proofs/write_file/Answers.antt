@@ -17,11 +17,8 @@ use Rattle.blocks.specs.FileLaws.{block_more, block_first, jobs_block, rows_bloc
 use Rattle.filing.specs.Filing.{entry_at}
 use Rattle.filing.specs.FilingLaws.{all_filed}
 use borrow.Author.Rules.{rules}
+use Rattle.filing.proofs.write_file.Invariants.{rows}
 use Rattle.filing.proofs.write_file.Goals as goal
-
--- the rows at the first places of an order
-abbrev rows : List ℕ → List ℕ → ℕ → List Entry
-rows work order count = tab count (λ i. entry_at work (get_or order i 0))
 
 pub loop-b-init : goal.loop-b-init
 loop-b-init c = (search rules, search rules, refl, λ σ old l e. e)
@@ -42,9 +39,9 @@ loop-b-preserved c =
     let e : (block_bytes * l.b + block_bytes) - block_bytes * l.b ≡ block_bytes = omega arith in (
       search rules,
       search rules,
-      same_len_mid (block_bytes * l.b) (block_bytes * l.b + block_bytes - block_bytes * l.b) l.out w.new.0 w.auto.0 ∙ l.invariant.2,
-      λ σ old m q. block_more t σ (rows a.work.now a.order.now a.count) (omega arith) old l.out w.new.0 _ l.b (l.invariant.3 σ old m q)
-          (rows_block a.n t l.b a.count u.result _ σ w.new.0 (omega arith) m u.ensures.0 w.ensures) (rw e refl),
+      same_len_mid (block_bytes * l.b) (block_bytes * l.b + block_bytes - block_bytes * l.b) l.out w.new.part w.auto.part ∙ l.invariant.2,
+      λ σ old m q. block_more t σ (rows a.work.now a.order.now a.count) (omega arith) old l.out w.new.part _ l.b (l.invariant.3 σ old m q)
+          (rows_block a.n t l.b a.count u.result _ σ w.new.part (omega arith) m u.ensures.0 w.ensures) (rw e refl),
     )
 
 pub returns : goal.returns
@@ -57,8 +54,8 @@ returns c =
     let R = rows a.work.now a.order.now a.count in
     let n = length_sheet a.jobs a.n (search rules) in
     let e : l.b ≡ blocks_of a.count = omega arith in
-    let j = jobs_block a.jobs a.n (search rules) (search rules) t.result R w.new.0 w.ensures in
-    let f = block_first t.result σ R (omega arith) a.out.now w.new.0 _ j refl in
+    let j = jobs_block a.jobs a.n (search rules) (search rules) t.result R w.new.part w.ensures in
+    let f = block_first t.result σ R (omega arith) a.out.now w.new.part _ j refl in
     rw (e, t.ensures) at (l.invariant.3 σ a.out.now n f)
     ∙ ap (λ (w : List ℕ). w ++ drop (block_bytes * blocks_of a.count) a.out.now)
     (all_filed a.work.now a.order.now a.count σ (omega (arith, c.requires.n_le_most_jobs.1.room, c.requires.n_le_most_jobs.1.halves)))

@@ -19,6 +19,10 @@ use Rattle.filing.specs.FilingLaws.{all_filed}
 use borrow.Author.Rules.{rules}
 use Rattle.filing.proofs.write_file.Given as goal
 
+-- the rows at the first places of an order
+abbrev pub rows : List ℕ → List ℕ → ℕ → List Entry
+rows work order count = tab count (λ i. entry_at work (get_or order i 0))
+
 abbrev pub invariant-loop-b : goal.invariant-loop-b
 invariant-loop-b l =
     (1 ≤ l.b) × (l.b ≤ l.total) × (length l.out ≡ length l.initial.out) × ((σ : Sheet) (old : List ℕ) → length σ ≡ l.n
