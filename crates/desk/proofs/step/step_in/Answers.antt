@@ -51,7 +51,7 @@ returns-then-not-names c =
     let event : Option Event = kind_of c.event_of-e.result in
     let names-is : on false (names sheet) event ≡ c.names.result = sym (c.names.ensures sheet (jobs_number says)) in
     let n = names-is ∙ not-true _ c.if-not-names.true-raw in
-    replies c (c.refused.ensures ∙ nine sheet rows desk event n)
+    for_event sheet rows desk _ c.requires.2 c.args.event _ c.event_of-e.ensures _ (c.refused.ensures ∙ nine sheet rows desk event n)
 
 pub returns-then-not-known : goal.returns-then-not-known
 returns-then-not-known c =
@@ -63,7 +63,7 @@ returns-then-not-known c =
     let names-is : on false (names sheet) event ≡ c.names.result = sym (c.names.ensures sheet (jobs_number says)) in
     let named : on false (names sheet) event ≡ true = names-is ∙ not-false _ c.if-not-names.false-raw in
     let k = told_no c.known.ensures (not-true _ c.if-not-known.true-raw) in
-    replies c (c.refused-then-not-known.ensures ∙ eight_unknown sheet rows desk event named (is_false (is_known _) k))
+    for_event sheet rows desk _ c.requires.2 c.args.event _ c.event_of-e.ensures _ (c.refused-then-not-known.ensures ∙ eight_unknown sheet rows desk event named (is_false (is_known _) k))
 
 pub returns-then-told-ne0 : goal.returns-then-told-ne0
 returns-then-told-ne0 c =
@@ -77,9 +77,9 @@ returns-then-told-ne0 c =
     let named : on false (names sheet) event ≡ true = names-is ∙ not-false _ c.if-not-names.false-raw in
     let all_known : Known desk.statuses = told_yes c.known.ensures (not-false _ c.if-not-known.false-raw) in
     let is-all-known : known desk.statuses ≡ true = is_true (is_known _) all_known in
-    let its-row : row ≡ lookup (word (state_in desk)) rows = (c c).pre.3 all_known in
+    let its-row : row ≡ lookup (word (state_in desk)) rows = c.requires.3 all_known in
     let n = named in
-    replies c (c.refused-then-told-ne0.ensures ∙ eight sheet rows desk row its-row is-all-known event n c.if-told-ne0.true)
+    for_event sheet rows desk _ c.requires.2 c.args.event _ c.event_of-e.ensures _ (c.refused-then-told-ne0.ensures ∙ eight sheet rows desk row its-row is-all-known event n c.if-told-ne0.true)
 
 pub slice_bounds-jobs_of-end : goal.slice_bounds-jobs_of-end
 slice_bounds-jobs_of-end c =
@@ -126,15 +126,14 @@ returns-then-not-may c =
     let named : on false (names sheet) event ≡ true = names-is ∙ not-false _ c.if-not-names.false-raw in
     let all_known : Known desk.statuses = told_yes c.known.ensures (not-false _ c.if-not-known.false-raw) in
     let is-all-known : known desk.statuses ≡ true = is_true (is_known _) all_known in
-    let its-row : row ≡ lookup (word (state_in desk)) rows = (c c).pre.3 all_known in
-    let asked_of : tie.After-event-of = c c in
-    let possible-is : on false (possible (sheet asked_of) (state_in (desk asked_of))) (event asked_of) ≡ c.may.result = let q = c.state_in-s in
-    let l = looked (says (c asked_of)) (model q.result) c.jobs_of-jobs.ensures c.look_at.ensures in
-    rw q.ensures at (sym (c.may.ensures (sheet asked_of) q.result l)) in
+    let its-row : row ≡ lookup (word (state_in desk)) rows = c.requires.3 all_known in
+    let possible-is : on false (possible sheet (state_in desk)) event ≡ c.may.result = let q = c.state_in-s in
+    let l = looked says (model q.result) c.jobs_of-jobs.ensures c.look_at.ensures in
+    rw q.ensures at (sym (c.may.ensures sheet q.result l)) in
     let z = c.if-told-ne0.false in
     let n = named in
     let p = possible-is ∙ not-true _ c.if-not-may.true-raw in
-    replies c (c.refused-then-not-may.ensures ∙ ten sheet rows desk row its-row is-all-known z event n p)
+    for_event sheet rows desk _ c.requires.2 c.args.event _ c.event_of-e.ensures _ (c.refused-then-not-may.ensures ∙ ten sheet rows desk row its-row is-all-known z event n p)
 
 pub allowed-requires : goal.allowed-requires
 allowed-requires c =
@@ -157,21 +156,19 @@ returns-then-not-allowed c =
     let named : on false (names sheet) event ≡ true = names-is ∙ not-false _ c.if-not-names.false-raw in
     let all_known : Known desk.statuses = told_yes c.known.ensures (not-false _ c.if-not-known.false-raw) in
     let is-all-known : known desk.statuses ≡ true = is_true (is_known _) all_known in
-    let its-row : row ≡ lookup (word (state_in desk)) rows = (c c).pre.3 all_known in
-    let asked_of : tie.After-event-of = c c in
-    let possible-is : on false (possible (sheet asked_of) (state_in (desk asked_of))) (event asked_of) ≡ c.may.result = let q = c.state_in-s in
-    let l = looked (says (c asked_of)) (model q.result) c.jobs_of-jobs.ensures c.look_at.ensures in
-    rw q.ensures at (sym (c.may.ensures (sheet asked_of) q.result l)) in
-    let may-be : tie.After-event-of = asked_of in
-    let can-be : on false (possible (sheet may-be) (state_in (desk may-be))) (event may-be) ≡ true = possible-is ∙ not-false _ c.if-not-may.false-raw in
+    let its-row : row ≡ lookup (word (state_in desk)) rows = c.requires.3 all_known in
+    let possible-is : on false (possible sheet (state_in desk)) event ≡ c.may.result = let q = c.state_in-s in
+    let l = looked says (model q.result) c.jobs_of-jobs.ensures c.look_at.ensures in
+    rw q.ensures at (sym (c.may.ensures sheet q.result l)) in
+    let can-be : on false (possible sheet (state_in desk)) event ≡ true = possible-is ∙ not-false _ c.if-not-may.false-raw in
     let z = c.if-told-ne0.false in
     let n = named in
     let w = sym c.allowed.ensures ∙ not-true _ c.if-not-allowed.true-raw in
-    replies c (c.refused-then-not-allowed.ensures ∙ eleven sheet rows desk row its-row is-all-known z event n can-be w)
+    for_event sheet rows desk _ c.requires.2 c.args.event _ c.event_of-e.ensures _ (c.refused-then-not-allowed.ensures ∙ eleven sheet rows desk row its-row is-all-known z event n can-be w)
 
 pub after-requires : goal.after-requires
 after-requires c =
-    let desk-fits : (c.args.desk.now < 256) × (c.args.desk.elapsed < 256) × (length c.args.desk.statuses ≡ 8) = (omega (arith, c.well-formed.1.1.0), omega (arith, c.well-formed.1.1.0), search (rules, c.well-formed.1.1.0)) in
+    let desk-fits : (c.args.desk.now < 256) × (c.args.desk.elapsed < 256) × (length c.args.desk.statuses ≡ 8) = (omega (arith, c.well_formed), omega (arith, c.well_formed), search (rules, c.well_formed)) in
     let says : Says c.args.file.now (good c.requires.0 c.requires.1) = said c.args.file.now (λ i. omega (arith, c.shared_slice_known-1.given i)) c.requires.2 in
     let sheet : Sheet = c.requires.0 in
     let rows : List Entry = c.requires.1 in
@@ -181,15 +178,12 @@ after-requires c =
     let names-is : on false (names sheet) event ≡ c.names.result = sym (c.names.ensures sheet (jobs_number says)) in
     let named : on false (names sheet) event ≡ true = names-is ∙ not-false _ c.if-not-names.false-raw in
     let all_known : Known desk.statuses = told_yes c.known.ensures (not-false _ c.if-not-known.false-raw) in
-    let its-row : row ≡ lookup (word (state_in desk)) rows = (c c).pre.3 all_known in
-    let asked_of : tie.After-event-of = c c in
-    let possible-is : on false (possible (sheet asked_of) (state_in (desk asked_of))) (event asked_of) ≡ c.may.result = let q = c.state_in-s in
-    let l = looked (says (c asked_of)) (model q.result) c.jobs_of-jobs.ensures c.look_at.ensures in
-    rw q.ensures at (sym (c.may.ensures (sheet asked_of) q.result l)) in
-    let may-be : tie.After-event-of = asked_of in
-    let can-be : on false (possible (sheet may-be) (state_in (desk may-be))) (event may-be) ≡ true = possible-is ∙ not-false _ c.if-not-may.false-raw in
-    let is-asked : tie.After-event-of = may-be in
-    let is-allowed : on false (allows (row is-asked).starts (row is-asked).tick) (event is-asked) ≡ true = sym c.allowed.ensures ∙ not-false _ c.if-not-allowed.false-raw in
+    let its-row : row ≡ lookup (word (state_in desk)) rows = c.requires.3 all_known in
+    let possible-is : on false (possible sheet (state_in desk)) event ≡ c.may.result = let q = c.state_in-s in
+    let l = looked says (model q.result) c.jobs_of-jobs.ensures c.look_at.ensures in
+    rw q.ensures at (sym (c.may.ensures sheet q.result l)) in
+    let can-be : on false (possible sheet (state_in desk)) event ≡ true = possible-is ∙ not-false _ c.if-not-may.false-raw in
+    let is-allowed : on false (allows row.starts row.tick) event ≡ true = sym c.allowed.ensures ∙ not-false _ c.if-not-allowed.false-raw in
     let q = c.state_in-s in
     let s = says in
     let z = c.if-told-ne0.false in
@@ -211,18 +205,15 @@ returns c =
     let named : on false (names sheet) event ≡ true = names-is ∙ not-false _ c.if-not-names.false-raw in
     let all_known : Known desk.statuses = told_yes c.known.ensures (not-false _ c.if-not-known.false-raw) in
     let is-all-known : known desk.statuses ≡ true = is_true (is_known _) all_known in
-    let its-row : row ≡ lookup (word (state_in desk)) rows = (c c).pre.3 all_known in
-    let asked_of : tie.After-event-of = c c in
-    let possible-is : on false (possible (sheet asked_of) (state_in (desk asked_of))) (event asked_of) ≡ c.may.result = let q = c.state_in-s in
-    let l = looked (says (c asked_of)) (model q.result) c.jobs_of-jobs.ensures c.look_at.ensures in
-    rw q.ensures at (sym (c.may.ensures (sheet asked_of) q.result l)) in
-    let may-be : tie.After-event-of = asked_of in
-    let can-be : on false (possible (sheet may-be) (state_in (desk may-be))) (event may-be) ≡ true = possible-is ∙ not-false _ c.if-not-may.false-raw in
-    let is-asked : tie.After-event-of = may-be in
-    let is-allowed : on false (allows (row is-asked).starts (row is-asked).tick) (event is-asked) ≡ true = sym c.allowed.ensures ∙ not-false _ c.if-not-allowed.false-raw in
+    let its-row : row ≡ lookup (word (state_in desk)) rows = c.requires.3 all_known in
+    let possible-is : on false (possible sheet (state_in desk)) event ≡ c.may.result = let q = c.state_in-s in
+    let l = looked says (model q.result) c.jobs_of-jobs.ensures c.look_at.ensures in
+    rw q.ensures at (sym (c.may.ensures sheet q.result l)) in
+    let can-be : on false (possible sheet (state_in desk)) event ≡ true = possible-is ∙ not-false _ c.if-not-may.false-raw in
+    let is-allowed : on false (allows row.starts row.tick) event ≡ true = sym c.allowed.ensures ∙ not-false _ c.if-not-allowed.false-raw in
     let q = c.state_in-s in
     let z = c.if-told-ne0.false in
     let n = named in
     let g = rw q.ensures at (c.after.ensures sheet (jobs_number says)) in
-    replies c (ap moved c.desk_of-next.ensures
+    for_event sheet rows desk _ c.requires.2 c.args.event _ c.event_of-e.ensures _ (ap moved c.desk_of-next.ensures
     ∙ taken sheet rows desk row its-row is-all-known z event n can-be is-allowed _ g)
