@@ -22,7 +22,7 @@ pub slice_bounds-put_listing-end : goal.slice_bounds-put_listing-end
 slice_bounds-put_listing-end c =
     let m = c.make-reply in
     let s = c.requires.0 in
-    sym (length-take-le m.result.length m.new.1.1.0 (made_listed m.ensures s (search rules) (search rules) c.if-number-ne0.false).within)
+    sym (length-take-le m.result.length m.new.out (made_listed m.ensures s (search rules) (search rules) c.if-number-ne0.false).within)
 
 pub put_listing-requires : goal.put_listing-requires
 put_listing-requires c =

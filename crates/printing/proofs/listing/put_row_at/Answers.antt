@@ -20,6 +20,6 @@ returns c =
     let p = w.ensures in
     let e = row_line_at a.n f a.i q.result r.result q.ensures r.ensures in
     let l = row_length a.n (record { word = r.result; starts = get_or f (q.result + 4) 0; tick = get_or f (q.result + 5) 0 }) c.requires.n_le_most_jobs.0 (search rules) in (
-      subst (λ (s : List ℕ). Printed a.out.now a.at s w.result w.new.0) e p,
+      subst (λ (s : List ℕ). Printed a.out.now a.at s w.result w.new.out) e p,
       omega (arith, p.behind, l),
     )
