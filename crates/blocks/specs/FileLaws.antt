@@ -12,7 +12,7 @@ use Rattle.sheet.specs.Table.{Entry}
 use Rattle.blocks.specs.Sizes.{block_bytes, block_slots, slot_bytes, most_jobs}
 use Rattle.blocks.specs.File.{block_of, job_slot, row_slot, block_for, written, blocks_of, bytes_of}
 use Rattle.sheet.specs.Arrays.{job_of, sheet_of}
-use Rattle.sheet.specs.ArraysLaws.{length_sheet}
+use Rattle.sheet.proofs.ArraysLaws.{length_sheet}
 use Rattle.blocks.specs.Tab.{tab}
 use Rattle.blocks.specs.TabLaws.{take_is_tab, part_tab, map_tab}
 use Rattle.blocks.specs.BlockLaws.{block_length}

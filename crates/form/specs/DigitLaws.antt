@@ -7,9 +7,9 @@ use Rattle.std.specs.Int.Bits.{bit_and}
 use Rattle.std.proofs.lemmas.Nat.{and_mask, shr_le}
 use Rattle.plant.specs.Range.{In}
 use Rattle.plant.specs.Marks.{Has}
-use Rattle.plant.specs.Mask.{byte_some}
+use Rattle.plant.proofs.MaskLaws.{byte_some}
 use Rattle.sheet.specs.Model.{digits_word, status, digits, state_of}
-use Rattle.sheet.specs.WordLaws.{digits_lt, word_of_digits}
+use Rattle.sheet.proofs.WordLaws.{digits_lt, word_of_digits}
 use Rattle.state.specs.BitLaws.{four_pow}
 
 -- a word of statuses below 4 ^ n has none from place n on

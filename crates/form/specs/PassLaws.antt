@@ -7,7 +7,7 @@ use Rattle.plant.specs.Marks.{Has}
 use Rattle.plant.specs.Reflect.{Is, is_map, is_eq, is_and, is_true}
 use Rattle.sheet.specs.Model.{Job, Sheet, job, State, status, state_of}
 use Rattle.sheet.specs.Arrays.{job_of, sheet_of}
-use Rattle.sheet.specs.ArraysLaws.{job_suc}
+use Rattle.sheet.proofs.ArraysLaws.{job_suc}
 use Rattle.state.specs.Tell.{tell_no, told_yes, told_no}
 use Rattle.form.specs.declared.row.Seen.TheVariants.{Passed}
 use Rattle.form.specs.RowTest.{JobFits, Pends, Spends, JobsFit, Runs, Tells}

@@ -5,7 +5,7 @@ use Rattle.plant.specs.Reflect.{Is, is_map, is_le, is_eq, is_and, is_not, is_dec
 use Rattle.sheet.specs.Model.{Sheet, State, Finished, state_of}
 use Rattle.sheet.specs.Form.{GoodEntry}
 use Rattle.sheet.specs.Arrays.{sheet_of}
-use Rattle.sheet.specs.ArraysLaws.{length_sheet}
+use Rattle.sheet.proofs.ArraysLaws.{length_sheet}
 use Rattle.state.specs.Tell.{tell_no, told_yes, told_no}
 use Rattle.form.specs.declared.row.Seen.TheVariants.{Refused, Passed}
 use Rattle.form.specs.RowTest.{Tells, Runs, Ends, MarksFit}

@@ -6,11 +6,11 @@ use Rattle.std.proofs.Math.Nat.{zero-div}
 use Rattle.plant.specs.Plant.{tick, start}
 use Rattle.plant.specs.Range.{In}
 use Rattle.plant.specs.Marks.{Has}
-use Rattle.plant.specs.Mask.{byte_some}
+use Rattle.plant.proofs.MaskLaws.{byte_some}
 use Rattle.plant.specs.Reflect.{Is, is_map, is_dec, is_true}
 use Rattle.sheet.specs.Model.{Sheet, Names, job, State, status, Possible, Finished, next, Late, digits, state_of}
 use Rattle.sheet.specs.ModelTestsRight.{is_finished, is_late}
-use Rattle.sheet.specs.WordLaws.{length_digits, digits_lt, word_of_digits}
+use Rattle.sheet.proofs.WordLaws.{length_digits, digits_lt, word_of_digits}
 use Rattle.sheet.specs.Form.{Timely, UnderWay, FinishedState, GoodEntry}
 use Rattle.sheet.specs.Table.{Entry}
 use Rattle.state.specs.Tell.{told_yes}

@@ -5,7 +5,7 @@ use Rattle.std.proofs.lemmas.List.{map-append, length-map}
 use Rattle.plant.specs.Marks.{Has}
 use Rattle.sheet.specs.Model.{State, digits, state_of}
 use Rattle.sheet.specs.Table.{Entry}
-use Rattle.sheet.specs.WordLaws.{length_digits, digits_lt}
+use Rattle.sheet.proofs.WordLaws.{length_digits, digits_lt}
 use Rattle.blocks.specs.Sizes.{most_jobs}
 use Rattle.lines.specs.Digits.{digit, decimal}
 use Rattle.lines.specs.Lines.{line, statuses_text, job_text, jobs_text, or_dash, tick_word, header_line, row_line, line_bytes}

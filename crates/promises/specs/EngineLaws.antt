@@ -5,7 +5,7 @@ use Rattle.plant.specs.Plant.{Live, Safe}
 use Rattle.plant.specs.Number.{Number}
 use Rattle.plant.specs.Lists.{number_unique}
 use Rattle.sheet.specs.Model.{Sheet, Good, initial, plant}
-use Rattle.sheet.specs.Demand3.{demand_3}
+use Rattle.sheet.proofs.Demand3Laws.{demand_3}
 use Rattle.state.specs.Lowest.{lowest_bad}
 use Rattle.state.specs.LowestLaws.{good_sheet}
 use Rattle.places.specs.Places.{most_live, work_words}

@@ -10,11 +10,6 @@ pub mod Engine
 -- What follows: that they hold.
 pub mod MadeLaws
 pub mod TakenLaws
-pub mod NightLaws
-pub mod Demand1Laws
 pub mod Demand2Laws
-pub mod Demand3Laws
 pub mod EngineLaws
-pub mod PromisesLaws
 pub mod Starred
-pub mod Idle

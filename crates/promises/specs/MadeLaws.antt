@@ -5,11 +5,11 @@ use mathlib.Core.List.Memᴰ
 use Rattle.plant.specs.Plant.{Live, Safe, at_start}
 use Rattle.plant.specs.Number.{Number}
 use Rattle.plant.specs.Lists.{at_most}
-use Rattle.plant.specs.SafeLaws.{safe_live}
-use Rattle.plant.specs.TableLaws.{row_safe}
+use Rattle.plant.proofs.SafeLaws.{safe_live}
+use Rattle.plant.proofs.TableLaws.{row_safe}
 use Rattle.sheet.specs.Model.{Sheet, Good, initial, plant}
 use Rattle.sheet.specs.Table.{Entry, Rows}
-use Rattle.sheet.specs.RowsLaws.{rows_good, rows_number}
+use Rattle.sheet.proofs.RowsLaws.{rows_good, rows_number}
 use Rattle.blocks.specs.File.{bytes_of}
 use Rattle.blocks.specs.FileLaws.{length_bytes}
 use Rattle.table.specs.Reading.{Table, good}

@@ -2,7 +2,8 @@
 use Rattle.std.specs.Prelude.{ℕ, ◌≡◌, refl, length, get_or, pos}
 use mathlib.Core.List.{[], Memᴰ}
 use Rattle.sheet.specs.Model.{digits}
-use Rattle.sheet.specs.Starred.{Star, stars, Claim, starred}
+use Rattle.sheet.specs.Starred.{Star, stars, Claim}
+use Rattle.sheet.proofs.StarredLaws.{starred}
 use Rattle.blocks.specs.Sizes.{body_bytes}
 use Rattle.blocks.specs.Bytes.{u32_at}
 use Rattle.blocks.specs.File.{block_for, blocks_of}

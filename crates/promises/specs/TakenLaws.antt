@@ -9,14 +9,14 @@ use Rattle.plant.specs.Rule.{Allowed}
 use Rattle.plant.specs.Asked.{Named}
 use Rattle.plant.specs.Marks.{Code}
 use Rattle.plant.specs.Reflect.{Is, is_map, is_eq, is_and, is_le, is_not, is_true}
-use Rattle.plant.specs.SafeLaws.{safe_live}
-use Rattle.plant.specs.TableLaws.{row_safe}
+use Rattle.plant.proofs.SafeLaws.{safe_live}
+use Rattle.plant.proofs.TableLaws.{row_safe}
 use Rattle.sheet.specs.Model.{Sheet, Good, State, Possible, next, word, plant}
 use Rattle.sheet.specs.ModelTestsRight.{is_possible}
 use Rattle.sheet.specs.ModelTests.{possible}
 use Rattle.sheet.specs.Table.{Entry, Ascending, EntryOf, Rows}
-use Rattle.sheet.specs.RowsLaws.{ascending_tail, ascending_below}
-use Rattle.sheet.specs.OrderLaws.{live_wordy}
+use Rattle.sheet.proofs.RowsLaws.{ascending_tail, ascending_below}
+use Rattle.sheet.proofs.OrderLaws.{live_wordy}
 use Rattle.table.specs.Replies.{told, lookup}
 use Rattle.desk.specs.Stepping.{desk_of, known, names, allows, stays, moves, asked}
 use Rattle.desk.specs.StepLaws.{is_known}

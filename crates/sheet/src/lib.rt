@@ -1,3 +1,3 @@
-// The rules of a sheet: no code. The definitions and theorems stand in specs/.
+// The rules of a sheet: no code. The definitions stand in specs/, the theorems there and in proofs/.
 
 #![tactic(auto)]

@@ -6,7 +6,7 @@ use Rattle.sheet.specs.Arrays.{sheet_of, arrays}
 use Rattle.state.specs.Lent.{WholeJobs, lent, JobsIn}
 use Rattle.state.specs.Lowest.{lowest_bad}
 use Rattle.state.specs.LowestLaws.{is_lowest_bad, good_sheet}
-use Rattle.sheet.specs.ArraysLaws.{length_sheet}
+use Rattle.sheet.proofs.ArraysLaws.{length_sheet}
 
 pub jobs_none : (most : ℕ) (numbers : List ℕ) (r : ℕ) → JobsIn most (length numbers) r → r ≡ 0 → ¬ (WholeJobs most numbers)
 jobs_none most numbers r (inl x) e s = x.1 (s.whole, s.some, s.few)

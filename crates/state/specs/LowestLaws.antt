@@ -10,7 +10,7 @@ use Rattle.plant.specs.Reflect.{Is, is_map, is_le, is_and, is_and3, is_not, is_d
 use Rattle.sheet.specs.Model.{Job, Sheet, job, GoodJob, Good}
 use Rattle.sheet.specs.Arrays.{job_of, sheet_of}
 use Rattle.state.specs.Lowest.{lowest, good, lowest_bad}
-use Rattle.sheet.specs.ArraysLaws.{length_sheet, job_suc}
+use Rattle.sheet.proofs.ArraysLaws.{length_sheet, job_suc}
 
 -- `r` is the lowest of 1, .., n of which `P` holds, or 0 and there is none
 pub record LowestOf (n : ℕ) (P : ℕ → Type 0) (r : ℕ) : Type 0 where

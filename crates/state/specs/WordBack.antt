@@ -3,7 +3,7 @@ use Rattle.std.specs.Prelude.{ℕ, zero, suc, ◌/◌, ◌%◌, ◌^◌, ◌<◌
 use Rattle.std.proofs.Math.Nat.{pow-succ', div-div-eq-div-mul}
 use Rattle.std.proofs.Common.{arith}
 use Rattle.sheet.specs.Model.{State, digits_word, word, digits, state_of}
-use Rattle.sheet.specs.WordLaws.{digits_word_lt, state_of_word}
+use Rattle.sheet.proofs.WordLaws.{digits_word_lt, state_of_word}
 use Rattle.state.specs.Clocks.{Known}
 use Rattle.state.specs.declared.word.State as by_value
 

@@ -4,7 +4,7 @@ use Rattle.std.proofs.Common.{arith, sym, ap, ◌∙◌, ext_get_or}
 use Rattle.sheet.specs.Model.{Job, no_job}
 use Rattle.sheet.specs.Table.{at}
 use Rattle.sheet.specs.Arrays.{job_of, sheet_of}
-use Rattle.sheet.specs.ArraysLaws.{length_sheet, job_suc}
+use Rattle.sheet.proofs.ArraysLaws.{length_sheet, job_suc}
 use Rattle.blocks.specs.Sizes.{slot_bytes, most_jobs}
 use Rattle.blocks.specs.Bytes.{EachByte}
 use Rattle.blocks.specs.File.{job_slot, block_for}

@@ -8,7 +8,7 @@ use borrow.Rule.Slice.PartMut.{same_len_mid}
 use Rattle.sheet.specs.Model.{Sheet}
 use Rattle.sheet.specs.Table.{Entry}
 use Rattle.sheet.specs.Arrays.{sheet_of}
-use Rattle.sheet.specs.ArraysLaws.{length_sheet}
+use Rattle.sheet.proofs.ArraysLaws.{length_sheet}
 use Rattle.order.specs.LentLaws.{place_small}
 use Rattle.blocks.specs.Sizes.{block_bytes}
 use Rattle.blocks.specs.File.{written, blocks_of}

@@ -2,7 +2,7 @@
 use borrow.Author.Rules.{rules}
 use borrow.Author.Tests.{not-true, not-false}
 use Rattle.plant.specs.Reflect.{is_map}
-use Rattle.sheet.specs.ArraysLaws.{length_sheet}
+use Rattle.sheet.proofs.ArraysLaws.{length_sheet}
 use Rattle.state.specs.Tell.{tell_no, told_yes, told_no}
 use Rattle.form.proofs.block.rows_follow.Goals as goal
 

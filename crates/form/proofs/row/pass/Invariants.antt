@@ -5,7 +5,7 @@ use native.Mathlib.Omega.{arith}
 use borrow.Author.Rules.{rules}
 use borrow.Author.Tests.{not-true, not-false}
 use Rattle.sheet.specs.Model.{state_of}
-use Rattle.sheet.specs.WordLaws.{digits_lt}
+use Rattle.sheet.proofs.WordLaws.{digits_lt}
 use Rattle.sheet.specs.Arrays.{sheet_of}
 use Rattle.state.specs.Tell.{told_yes, told_no}
 use Rattle.form.specs.declared.row.Seen.TheVariants.{Passed}

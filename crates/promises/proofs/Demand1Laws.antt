@@ -8,7 +8,7 @@ use Rattle.plant.specs.Lists.{number_unique}
 use Rattle.sheet.specs.Model.{Sheet, Good, next, word, plant}
 use Rattle.sheet.specs.ModelTests.{possible}
 use Rattle.sheet.specs.Table.{Entry, Rows}
-use Rattle.sheet.specs.RowsLaws.{rows_one}
+use Rattle.sheet.proofs.RowsLaws.{rows_one}
 use Rattle.blocks.specs.File.{bytes_of}
 use Rattle.blocks.specs.FileLaws.{length_bytes}
 use Rattle.places.specs.Places.{most_live}

@@ -8,8 +8,9 @@ use Rattle.plant.specs.Lists.{number_unique}
 use Rattle.plant.specs.Rule.{reached}
 use Rattle.sheet.specs.Model.{Good, initial, plant}
 use Rattle.sheet.specs.Table.{Entry, Rows}
-use Rattle.sheet.specs.RowsLaws.{rows_one}
-use Rattle.sheet.specs.Starred.{stars, starred}
+use Rattle.sheet.proofs.RowsLaws.{rows_one}
+use Rattle.sheet.specs.Starred.{stars}
+use Rattle.sheet.proofs.StarredLaws.{starred}
 use Rattle.sheet.specs.Arrays.{arrays}
 use Rattle.blocks.specs.Sizes.{letter_t}
 use Rattle.table.specs.Reading.{Reading, good, bad}
@@ -24,8 +25,8 @@ use Rattle.desk.specs.Stepping.{desk_of, step_reply}
 use Rattle.desk.specs.declared.desk.Desk.{Desk}
 use Rattle.promises.specs.Night.{Night, taken, Takes, events}
 use Rattle.promises.specs.MadeLaws.{number_of, is_done, done_read}
-use Rattle.promises.specs.Demand1Laws.{made_number}
-use Rattle.promises.specs.Demand3Laws.{demand_3_of_calls}
+use Rattle.promises.proofs.Demand1Laws.{made_number}
+use Rattle.promises.proofs.Demand3Laws.{demand_3_of_calls}
 use Rattle.promises.specs.Starred.{star}
 
 -- S1 as it is lent

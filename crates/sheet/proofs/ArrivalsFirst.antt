@@ -6,11 +6,11 @@ use Rattle.plant.specs.Plant.{Plant, Event, tick, arrival, start, ending, Live, 
 use Rattle.plant.specs.Reflect.{is_not}
 use Rattle.plant.specs.Number.{Number}
 use Rattle.plant.specs.Lists.{at_most}
-use Rattle.plant.specs.SafeLaws.{safe_leads, safe_not_late, leads_weakly, largest}
+use Rattle.plant.proofs.SafeLaws.{safe_leads, safe_not_late, leads_weakly, largest}
 use Rattle.sheet.specs.Model.{Job, Sheet, Names, Good, State, status, initial, Possible, next, Late, plant}
 use Rattle.sheet.specs.ModelTestsRight.{is_busy, is_possible}
-use Rattle.sheet.specs.Obeys.{tests}
-use Rattle.sheet.specs.Demand3.{lives}
+use Rattle.sheet.proofs.Obeys.{tests}
+use Rattle.sheet.proofs.Demand3Laws.{lives}
 
 -- "Start of i: possible when i is ready and none runs. .. A pending arrival of another job doesn't prevent it." (01, before #101)
 abbrev pub PossibleInAnyOrder : Sheet → State → Event → Type 0

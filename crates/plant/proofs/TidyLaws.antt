@@ -6,7 +6,7 @@ use Rattle.plant.specs.Plant.{Plant, Event, tick, arrival, start, ending, Via}
 use Rattle.plant.specs.Rule.{Rule, reached, Run}
 use Rattle.plant.specs.Range.{In}
 use Rattle.plant.specs.Count.{kind, who}
-use Rattle.plant.specs.TableLaws.{run_keeps, via_keeps}
+use Rattle.plant.proofs.TableLaws.{run_keeps, via_keeps}
 use Rattle.plant.specs.Shop.{Shop, turn, older, longer}
 use Rattle.plant.specs.CountLaws.{other}
 

@@ -10,14 +10,14 @@ use Rattle.plant.specs.Plant.{tick, Row, Safe, Live, at_start}
 use Rattle.plant.specs.Number.{Number, Distinct}
 use Rattle.plant.specs.Range.{In}
 use Rattle.plant.specs.Marks.{Has, Code}
-use Rattle.plant.specs.MarkLaws.{starts_one, code_one, code_le, held_some}
-use Rattle.plant.specs.SafeLaws.{safe_live, safe_not_late}
-use Rattle.plant.specs.TableLaws.{row_safe}
+use Rattle.plant.proofs.MarkLaws.{starts_one, code_one, code_le, held_some}
+use Rattle.plant.proofs.SafeLaws.{safe_live, safe_not_late}
+use Rattle.plant.proofs.TableLaws.{row_safe}
 use Rattle.sheet.specs.Model.{Sheet, Good, State, initial, Possible, next, Late, digits_word, word, plant, state_of}
 use Rattle.sheet.specs.Table.{Entry, at, Ascending, EntryOf, Rows}
 use Rattle.sheet.specs.Form.{InOrder, Fits, GoodEntry, GoodRows}
-use Rattle.sheet.specs.WordLaws.{word_lt, state_of_word}
-use Rattle.sheet.specs.OrderLaws.{live_in_order, live_wordy}
+use Rattle.sheet.proofs.WordLaws.{word_lt, state_of_word}
+use Rattle.sheet.proofs.OrderLaws.{live_in_order, live_wordy}
 
 -- Ascending lists ---------------------------------------------------------------------------------------------------------
 

@@ -4,7 +4,7 @@ use Rattle.std.proofs.Common.{arith, sym, ap, subst, ◌∙◌}
 use Rattle.std.proofs.Math.Option.{Option, none, some}
 use Rattle.plant.specs.Plant.{Event, Safe}
 use Rattle.plant.specs.Rule.{reached, Run, begin, more, Allowed, Table}
-use Rattle.plant.specs.TableLaws.{run_row}
+use Rattle.plant.proofs.TableLaws.{run_row}
 use Rattle.sheet.specs.Model.{Sheet, Good, initial, Possible, next, plant}
 use Rattle.sheet.specs.Table.{Entry, Rows}
 use Rattle.state.specs.EventByte.{event_of, kind_of, byte_of}

@@ -7,17 +7,17 @@ use Rattle.plant.specs.Count.{who}
 use Rattle.plant.specs.Reflect.{is_dec, is_true, is_false}
 use Rattle.plant.specs.Asked.{Named}
 use Rattle.plant.specs.Sums.{greatest_le}
-use Rattle.plant.specs.SafeLaws.{live_not_late}
+use Rattle.plant.proofs.SafeLaws.{live_not_late}
 use Rattle.plant.specs.CountLaws.{self}
-use Rattle.plant.specs.TidyLaws.{Tidy, via_tidy}
+use Rattle.plant.proofs.TidyLaws.{Tidy, via_tidy}
 use Rattle.plant.specs.Turns.{turned_at, zeros_at, turn_other, was_done}
 use Rattle.plant.specs.Shop.{turn}
-use Rattle.plant.specs.Once.{on, now_latest}
+use Rattle.plant.proofs.Once.{on, now_latest}
 use Rattle.sheet.specs.Model.{Sheet, Names, job, Good, latest, State, status, initial, Possible, Finished, finished, busy, next, plant}
 use Rattle.sheet.specs.Form.{Timely, UnderWay, FinishedState, InOrder}
-use Rattle.sheet.specs.WordLaws.{Wordy}
+use Rattle.sheet.specs.Wordy.{Wordy}
 use Rattle.sheet.specs.ModelTestsRight.{is_finished, is_busy}
-use Rattle.sheet.specs.Obeys.{named, status_next, rested, still, unfinished_next, Fit, shop, once}
+use Rattle.sheet.proofs.Obeys.{named, status_next, rested, still, unfinished_next, Fit, shop, once}
 
 -- no job runs
 abbrev pub Idle : Sheet → State → Type 0

@@ -9,7 +9,7 @@ use Rattle.plant.specs.Asked.{Named, Tests, Moves}
 use Rattle.plant.specs.Sums.{le_greatest}
 use Rattle.plant.specs.Shop.{Shop, turn, older, longer}
 use Rattle.plant.specs.Turns.{turned, length_turned, turned_at, zeros_at, was_zero, Here, was_here}
-use Rattle.plant.specs.Once.{Once, on}
+use Rattle.plant.proofs.Once.{Once, on}
 use Rattle.sheet.specs.Model.{Sheet, Names, job, Good, latest, State, status, initial, Possible, Finished, finished, busy, next, Late, plant}
 use Rattle.sheet.specs.ModelTestsRight.{is_possible, is_late, is_busy, is_finished, tick_or, Barred}
 use Rattle.sheet.specs.ModelTests.{possible, late}

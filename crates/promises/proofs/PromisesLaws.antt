@@ -5,16 +5,16 @@ use Rattle.plant.specs.Plant.{Live}
 use Rattle.plant.specs.Rule.{Rule, Admissible}
 use Rattle.plant.specs.Number.{Number}
 use Rattle.sheet.specs.Model.{Good, plant}
-use Rattle.sheet.specs.Demand3.{demand_3}
+use Rattle.sheet.proofs.Demand3Laws.{demand_3}
 use Rattle.places.specs.Places.{most_live, work_words}
 use Rattle.state.specs.Lent.{lent}
 use Rattle.maker.specs.Making.{SheetLength, Made}
 use Rattle.maker.specs.OneAnswer.{made_one}
 use Rattle.maker.specs.declared.MakeReply.{MakeReply}
 use Rattle.promises.specs.Promises.{Promised, Promises}
-use Rattle.promises.specs.Demand1Laws.{made_number, few, demand_1, step_stays}
+use Rattle.promises.proofs.Demand1Laws.{made_number, few, demand_1, step_stays}
 use Rattle.promises.specs.Demand2Laws.{demand_2, read_exactly}
-use Rattle.promises.specs.Demand3Laws.{demand_3_of_calls}
+use Rattle.promises.proofs.Demand3Laws.{demand_3_of_calls}
 use Rattle.promises.specs.EngineLaws.{engine_judges, same_verdict}
 
 -- "A sheet of good form and size, lent room to work in, is called impossible exactly when there is no such rule."

@@ -4,10 +4,11 @@ use Rattle.std.proofs.Common.{arith, sym, ap, subst, inl, inr}
 use Rattle.std.proofs.lemmas.List.{length-map}
 use Rattle.plant.specs.Plant.{Event, tick, arrival, start, ending, Safe}
 use Rattle.plant.specs.Rule.{reached, Run, begin, more, Admissible, Table}
-use Rattle.plant.specs.SafeLaws.{safe_leads}
-use Rattle.plant.specs.TableLaws.{table_safe}
+use Rattle.plant.proofs.SafeLaws.{safe_leads}
+use Rattle.plant.proofs.TableLaws.{table_safe}
 use Rattle.sheet.specs.Model.{Sheet, State, Names, status, Possible, next, Finished, plant}
-use Rattle.sheet.specs.Demand3.{Demand3, demand_3, Followed}
+use Rattle.sheet.specs.Demand3.{Demand3, Followed}
+use Rattle.sheet.proofs.Demand3Laws.{demand_3}
 use Rattle.state.specs.EventByte.{byte_of}
 use Rattle.state.specs.Lent.{lent}
 use Rattle.maker.specs.Making.{Made}
@@ -17,7 +18,7 @@ use Rattle.desk.specs.declared.desk.Desk.{Desk}
 use Rattle.promises.specs.Night.{Night, Takes, AtDesk, events}
 use Rattle.promises.specs.Demand3.{Nights}
 use Rattle.promises.specs.MadeLaws.{Done, is_done}
-use Rattle.promises.specs.NightLaws.{night_run, run_night, bytes_events, step_takes, step_took}
+use Rattle.promises.proofs.NightLaws.{night_run, run_night, bytes_events, step_takes, step_took}
 
 module _ {numbers file : List ℕ} (made : Done numbers file) where
   abbrev σ : Sheet

@@ -4,13 +4,7 @@ use Rattle.std.proofs.Common.{arith, pow-suc, mul_assoc, ap, sym, ◌∙◌, lit
 use Rattle.std.proofs.Math.Nat.{one-le-pow, pow-succ'}
 use Rattle.std.proofs.Math.Arith.{mod-mul}
 use Rattle.sheet.specs.Model.{State, digits_word, word, digits, state_of}
-
--- what a word can hold: a byte for now and for elapsed, eight statuses of two bits
-pub record Wordy (q : State) : Type 0 where
-  pub now_fits : q.now < 256
-  pub elapsed_fits : q.elapsed < 256
-  pub eight : length q.statuses ≡ 8
-  pub statuses_fit : (j : ℕ) → get_or q.statuses j 0 < 4
+use Rattle.sheet.specs.Wordy.{Wordy}
 
 -- statuses below 4, at most k of them, make a word below 4 ^ k
 pub digits_word_lt : (k : ℕ) (l : List ℕ) → length l ≤ k → ((j : ℕ) → get_or l j 0 < 4) → digits_word l < 4 ^ k
