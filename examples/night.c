@@ -1,7 +1,7 @@
 /* Two nights at the RIP: a host in C that makes the table of a sheet and follows it.
  *
- *     rt staticlib host
- *     cc -std=c11 -Iinclude examples/night.c target/staticlib/libhost.a -o night
+ *     (cd crates/host && rt lib)
+ *     cc -std=c11 -Iinclude examples/night.c crates/host/out/libhost.a -o night
  *
  * How long a job runs is not known beforehand. Here a script says it; a real host would be told by the RIP. What the
  * program prints is in night.txt: the tick, and what happens at it. */

@@ -2,35 +2,60 @@
 
 #![tactic(auto)]
 
-ghost use Rattle.io.specs.Counts.{IsPrefixLen};
+ghost use Rattle.std.specs.Prelude.{◌≡◌, ◌≢◌, ◌≤◌, IfOk, length, take, vec_items};
+ghost use Rattle.std.specs.Io.{ReadsAtMost};
+ghost use Rattle.std.specs.Io.KnownBytes.{Consumes, IsAtEnd};
+ghost use Rattle.printing.specs.Prints.{Prints};
 
 use printing::{MOST_PRINTED, MOST_READ};
+use std::alloc::{AllocError, Global};
+use std::io::{self, Read};
 
-// Reads until the slice is full or the input ends, and answers how many bytes that is. Where a read fails it says so and answers 0: the
-// bytes that came before are not the text, and could be a shorter sheet. No bytes are refused as a text of another form.
-fn read_text(text: &mut [u8]) -> usize
-    ensures { IsPrefixLen result text.new }
+// Reads until the slice is full or the input ends, and answers how many bytes that is.
+fn read_text<R: Read>(input: &mut R, text: &mut [u8]) -> io::Result<usize>
+    ensures bound { ReadsAtMost result text.new }
+    ensures room { length text.new ≡ length text.old }
+    ensures bytes { IfOk result (λ n. Consumes (R.remaining input.old) (R.remaining input.new) (take n text.new)) }
+    ensures end { IfOk result (λ n. n ≢ length text.new → IsAtEnd (R.remaining input.new)) }
 {
     let mut end: usize = 0;
     while end < text.len() {
-        let got = libc::read(0, &mut text[end..]);
-        if got < 0 {
-            io::write_all(2, b"print_table: standard input can't be read\n");
-            return 0;
-        }
-        let more = io::count(got, &text[end..]);
+        let more = input.read(&mut text[end..])?;
         if more == 0 {
             break;
         }
         end += more;
     }
-    end
+    Ok(end)
 }
 
-fn main() {
+// Where a read fails it says so and answers 0: the bytes that came before are not the text, and could be a shorter sheet. No bytes are
+// refused as a text of another form.
+fn read_or_tell<R: Read>(rt: &impl Eprint, input: &mut R, text: &mut [u8]) -> usize
+    ensures { result ≤ length text.new }
+{
+    match read_text(input, text) {
+        Ok(end) => end,
+        Err(_) => {
+            let _told = rt.eprintln("print_table: standard input can't be read");
+            0
+        }
+    }
+}
+
+// What is printed for a text.
+fn print_text(alloc: Global, text: &[u8]) -> Result<Vec<u8>, AllocError>
+    ensures { IfOk result (λ out. Prints text.now (vec_items out)) }
+{
+    let mut out = vec![in alloc; 0u8; MOST_PRINTED]?;
+    let end = printing::print(&mut out, text);
+    out.truncate(end);
+    Ok(out)
+}
+
+fn main(rt: HostRuntime) -> io::Result<()> {
     let mut text = [0u8; MOST_READ];
-    let end = read_text(&mut text);
-    let mut out = [0u8; MOST_PRINTED];
-    let printed = printing::print(&mut out, &text[..end]);
-    io::write_all(1, &out[..printed]);
+    let end = read_or_tell(&rt, &mut rt.stdin(), &mut text);
+    let out = print_text(rt.alloc(), &text[..end])?;
+    rt.write_all(&out)
 }

@@ -12,7 +12,7 @@ const TOLD_BY_A_LAW: [[&str; 4]; 1] = [[
     "crates/table/specs/Read.antt",
     "reading",
     "crates/table/specs/ReadLaws.antt",
-    "says-reading",
+    "says_reading",
 ]];
 
 #[derive(Default)]

@@ -80,19 +80,27 @@ fn declared(line: &str, kinds: &[&str]) -> Option<String> {
 
 /// From the line of its name to the one that opens its body: the signature, then the clauses of its contract.
 fn function(name: String, lines: &[&str]) -> Function {
-    let clause = |line: &&str| {
-        ["requires {", "ensures {"].iter().any(|word| line.trim_start().starts_with(word))
-    };
     let signed = lines.iter().position(|line| line.contains('{')).unwrap_or(0);
     let signature = lines[..signed].join(" ") + lines[signed].split('{').next().unwrap_or("");
     let clauses = lines[signed..].iter().take_while(|line| line.trim() != "{");
-    let contract: Vec<&str> = clauses.copied().collect();
+    let contract: Vec<&str> = clauses.map(|line| said(line).unwrap_or(line)).collect();
     let parameters = signature.split(&['(', ','][..]).filter_map(|part| part.split_once(':'));
     Function {
         name,
         parameters: parameters.map(|(name, _)| name.trim().to_string()).collect(),
-        contract: if clause(&lines[signed]) { words(&contract.join("\n")) } else { Vec::new() },
+        contract: said(lines[signed]).map_or(Vec::new(), |_| words(&contract.join("\n"))),
         types: types(&signature),
+    }
+}
+
+/// Of a line that begins a clause, as `ensures name { .. }`, what stands behind the clause's name.
+fn said(line: &str) -> Option<&str> {
+    let (head, rest) = line.split_once('{')?;
+    let kind = head.split_whitespace().next()?.trim_end_matches('*');
+    if ["requires", "ensures"].contains(&kind) {
+        Some(rest)
+    } else {
+        None
     }
 }
 

@@ -3,6 +3,7 @@
 use super::code::{self, Source};
 use super::imports::{Import, Module};
 use super::specs::{self, Definition, Kind, Spec};
+use super::words::whole;
 use std::collections::BTreeMap;
 use std::fs;
 use std::path::Path;
@@ -58,7 +59,7 @@ impl Files {
     /// What a word of a file of definitions names: a definition there, or one that is imported. Nothing where it is the kit's.
     pub fn named(&self, file: &str, word: &str) -> Told<Option<Id>> {
         let spec = self.spec(file)?;
-        match defined(spec, word) {
+        match defined(spec, whole(word)) {
             Some(definition) => Ok(Some((file.to_string(), definition.name.clone()))),
             None => self.brought(&spec.imports, word),
         }
@@ -125,10 +126,11 @@ fn defined<'a>(spec: &'a Spec, name: &str) -> Option<&'a Definition> {
 /// The module that a word comes from and its name there.
 fn imported<'a>(imports: &'a [Import], word: &str) -> Option<(&'a Module, String)> {
     imports.iter().find_map(|import| {
-        let by_name = import.names.iter().find(|(_, here)| here == word).map(|name| name.0.clone());
-        let of_whole =
-            |whole: &String| Some(word.strip_prefix(whole)?.strip_prefix('.')?.to_string());
-        let name = by_name.or_else(|| import.whole.as_ref().and_then(of_whole))?;
+        let by_name =
+            import.names.iter().find(|(_, here)| here == whole(word)).map(|name| name.0.clone());
+        let of_module =
+            |module: &String| Some(word.strip_prefix(module)?.strip_prefix('.')?.to_string());
+        let name = by_name.or_else(|| import.whole.as_ref().and_then(of_module))?;
         Some((&import.module, name))
     })
 }

@@ -7,7 +7,7 @@ pub struct Module {
     pub path: Vec<String>,
 }
 
-/// `use Rattle·a.specs.B.{x, y as z}` brings names, `use Rattle·a.specs.B as c` a name for the module.
+/// `use Rattle.a.specs.B.{x, y as z}` brings names, `use Rattle.a.specs.B as c` a name for the module.
 #[derive(Debug)]
 pub struct Import {
     pub module: Module,
@@ -35,12 +35,12 @@ pub fn import(text: &str) -> Option<Import> {
     Some(Import { module, names, whole })
 }
 
-/// `Rattle·a.specs.B`, or `Rattle·a·specs.specs.B` in the crate itself.
+/// `Rattle.a.specs.B`
 fn module_of(path: &str) -> Option<Module> {
-    let (of_crate, rest) = path.strip_prefix("Rattle·")?.split_once('.')?;
-    let of_crate = of_crate.split('·').next()?.to_string();
-    let path = rest.strip_prefix("specs.")?.trim_end_matches(".the-variants");
-    Some(Module { of_crate, path: path.split('.').map(String::from).collect() })
+    let (of_crate, rest) = path.strip_prefix("Rattle.")?.split_once('.')?;
+    let path = rest.strip_prefix("specs.")?.trim_end_matches(".TheVariants");
+    let path = path.split('.').map(String::from).collect();
+    Some(Module { of_crate: of_crate.to_string(), path })
 }
 
 impl Module {

@@ -3,7 +3,7 @@
 use std::collections::BTreeSet;
 
 /// The words of a text without its comments. A bracket, a comma, a semicolon and the dot that ends a binder are words of their own;
-/// a field that is taken, as in `q .now`, keeps its dot.
+/// a field stays with what it is taken of, as in `q.now`, or keeps its dot, as in `(f x).now`.
 pub fn words(text: &str) -> Vec<String> {
     let mut list = Vec::new();
     for line in text.lines() {
@@ -112,6 +112,11 @@ pub fn plain(word: &str) -> bool {
     !SIGNS.contains(&word) && !word.starts_with('.')
 }
 
+/// Without the fields that are taken of it.
+pub fn whole(word: &str) -> &str {
+    word.split('.').next().unwrap_or(word)
+}
+
 /// The words that may name a definition: not bound, and no label of `record { .. }`.
 pub fn used(words: &[String], bound: &BTreeSet<String>) -> Vec<String> {
     let label = |at: usize| {
@@ -120,5 +125,5 @@ pub fn used(words: &[String], bound: &BTreeSet<String>) -> Vec<String> {
             && words.get(at + 1).map_or(false, |next| next == "=")
     };
     let names = words.iter().enumerate().filter(|(at, word)| plain(word) && !label(*at));
-    names.map(|(_, word)| word.clone()).filter(|word| !bound.contains(word)).collect()
+    names.map(|(_, word)| word.clone()).filter(|word| !bound.contains(whole(word))).collect()
 }

@@ -1,28 +1,29 @@
--- `read_text`: each read puts its bytes behind those before. The measure is the room left. Assumes nothing.
-use Prim.Native.Nat.{ℕ, ◌-◌, ◌≤◌}
-use mathlib.Core.Path.{◌≡◌, refl, sym}
-use mathlib.Core.List.{List}
-use native.Mathlib.Omega.{arith}
-use lib.ListN.{length}
-use lib.Seq.{length-take-le}
-use Rattle.io.specs.Counts.{IsPrefixLen}
-use borrow.Author.Rules.{rules}
+-- `read_text`: what stands in the text before and after a read is what was consumed.
+use Rattle.std.proofs.Common.{◌≡◌, ℕ, ◌+◌, ◌-◌, ◌≤◌, List, ◌++◌, rules, arith, length, take, slice_range, sym, ap, ◌∙◌, subst, le_refl, drop_at, length-take-le}
+use Rattle.std.proofs.lemmas.Slice.{take-put_mid_below}
+use Rattle.std.specs.Io.KnownBytes.{Consumes}
+use Rattle.std.proofs.KnownBytes.{Consumes-trans}
+use borrow.Rule.Slice.PartMut.{put_mid, post_of}
+use lib.Seq.{take-add, take-append-le}
 use Rattle.print_table.proofs.read_text.Goals as goal
 
-counted : (n : ℕ) (xs : List ℕ) → n ≤ length xs → IsPrefixLen n xs
-counted n xs h = (h, sym (length-take-le n xs h))
+take_split : (a b : ℕ) (old new : List ℕ) → a ≤ b → take a new ≡ take a old → take a old ++ slice_range new a b ≡ take b new
+take_split a b old new h front =
+    let same : a + (b - a) ≡ b = omega arith in
+    ap (λ l. l ++ slice_range new a b) (sym front) ∙ sym (take-add a (b - a) new) ∙ ap (λ n. take n new) same
 
-pub loop-end-init : goal.loop-end-init
-loop-end-init c = (refl, omega arith)
-
-pub returns-then-got-lt0 : goal.returns-then-got-lt0
-returns-then-got-lt0 c = (omega arith, refl)
+slice_range-put_mid : (a k n : ℕ) (xs ys : List ℕ) → a ≤ length xs → n ≤ length ys → slice_range (put_mid a k xs ys) a (a + n) ≡ take n ys
+slice_range-put_mid a k n xs ys within fits =
+    let same : (a + n) - a ≡ n = omega arith in
+    let after = post_of a k xs in
+    ap (take ((a + n) - a)) (drop_at (take a xs) (ys ++ after) a (length-take-le a xs within)) ∙ ap (λ m. take m (ys ++ after)) same ∙ take-append-le n ys after fits
 
 pub loop-end-preserved : goal.loop-end-preserved
-loop-end-preserved c = (omega arith, omega arith)
-
-pub returns-after-loop-end : goal.returns-after-loop-end
-returns-after-loop-end c = counted _ _ c.loop-end.invariant.1
-
-pub returns-then-more-eq0 : goal.returns-then-more-eq0
-returns-then-more-eq0 c = counted _ _ (omega arith)
+loop-end-preserved g c =
+    let from = c.loop-end.end in
+    let room = length c.loop-end.text - from in
+    let within = c.loop-end.invariant.0 in
+    let more = c.in_ok-more.more in
+    let part = slice_range-put_mid from room more c.loop-end.text c.read.new.buf within c.in_ok-more.ensures.bound.0 in
+    let joined = take_split from (from + more) c.loop-end.text (put_mid from room c.loop-end.text c.read.new.buf) (omega arith) (take-put_mid_below _ _ _ _ _ (le_refl _) within) in
+    (search rules, search rules, subst (Consumes _ _) (ap (λ l. take from c.loop-end.text ++ l) (sym part) ∙ joined) (Consumes-trans _ _ _ _ _ c.loop-end.invariant.2 c.in_ok-more.ensures.bytes.0))
