@@ -2,13 +2,11 @@
 
 #![tactic(auto)]
 
-ghost use Rattle.std.specs.Prelude.{◌≡◌, ◌≢◌, ◌≤◌, IfOk, length, take, vec_items};
+ghost use Rattle.std.specs.Prelude.{◌≡◌, ◌≢◌, ◌≤◌, IfOk, length, take};
 ghost use Rattle.std.specs.Io.{ReadsAtMost};
 ghost use Rattle.std.specs.Io.KnownBytes.{Consumes, IsAtEnd};
-ghost use Rattle.printing.specs.Prints.{Prints};
 
 use printing::{MOST_PRINTED, MOST_READ};
-use std::alloc::{AllocError, Global};
 use std::io::{self, Read};
 
 // Reads until the slice is full or the input ends, and answers how many bytes that is.
@@ -43,19 +41,10 @@ fn read_or_tell<R: Read>(rt: &impl Eprint, input: &mut R, text: &mut [u8]) -> us
     }
 }
 
-// What is printed for a text.
-fn print_text(alloc: Global, text: &[u8]) -> Result<Vec<u8>, AllocError>
-    ensures { IfOk result (λ out. Prints text.now (vec_items out)) }
-{
-    let mut out = vec![in alloc; 0u8; MOST_PRINTED]?;
-    let end = printing::print(&mut out, text);
-    out.truncate(end);
-    Ok(out)
-}
-
 fn main(rt: HostRuntime) -> io::Result<()> {
     let mut text = [0u8; MOST_READ];
     let end = read_or_tell(&rt, &mut rt.stdin(), &mut text);
-    let out = print_text(rt.alloc(), &text[..end])?;
-    rt.write_all(&out)
+    let mut out = [0u8; MOST_PRINTED];
+    let printed = printing::print(&mut out, &text[..end]);
+    rt.write_all(&out[..printed])
 }
