@@ -1,5 +1,5 @@
 -- What the code's struct of a state stands for in the rules.
-use Rattle.std.specs.Prelude.{ℕ, ◌+◌, ◌≤◌, List, get_or}
+use Rattle.std.specs.Prelude.{ℕ, ◌≤◌, List, get_or}
 use Rattle.sheet.specs.Model as rules
 use Rattle.state.specs.declared.word.State.{State}
 

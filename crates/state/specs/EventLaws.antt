@@ -5,7 +5,6 @@ use Rattle.std.proofs.Math.Option.{some}
 use Rattle.plant.specs.Plant as plant
 use Rattle.plant.specs.Asked.{Named}
 use Rattle.plant.specs.Reflect.{Is, is_le, is_eq, is_and, is_true, is_false}
-use Rattle.state.specs.declared.event.Event.{Event}
 use Rattle.state.specs.declared.event.Event.TheVariants.{Tick, Arrival, Start, Ending, Nothing}
 use Rattle.state.specs.EventByte.{within, event_of, kind_of, byte_of}
 

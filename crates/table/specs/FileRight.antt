@@ -3,7 +3,7 @@ use Rattle.std.specs.Prelude.{ℕ, suc, ◌+◌, ◌-◌, ◌%◌, ◌≤◌, �
 use Rattle.std.proofs.Common.{arith, subst, inl, inr}
 use Rattle.plant.specs.Reflect.{Is}
 use Rattle.sheet.specs.Model.{Sheet}
-use Rattle.sheet.specs.Table.{Entry, at}
+use Rattle.sheet.specs.Table.{Entry}
 use Rattle.sheet.specs.Arrays.{sheet_of}
 use Rattle.blocks.specs.Sizes.{block_bytes}
 use Rattle.blocks.specs.Bytes.{EachByte}

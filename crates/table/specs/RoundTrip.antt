@@ -9,7 +9,7 @@ use mathlib.Core.List.{List, ◌++◌}
 use Rattle.std.proofs.lemmas.List.{take-append-le, drop-append-le}
 use Rattle.std.proofs.Math.Seq.{take-add}
 use Rattle.sheet.specs.Model.{Sheet}
-use Rattle.sheet.specs.Table.{Entry, at}
+use Rattle.sheet.specs.Table.{Entry}
 use Rattle.blocks.specs.Sizes.{block_bytes, block_slots}
 use Rattle.blocks.specs.File.{block_for, written, blocks_of, bytes_of}
 use Rattle.blocks.specs.FileLaws.{length_block, length_written, length_bytes}

@@ -1,5 +1,4 @@
 -- `slot_at`: the slot of the row that its key and its note make. Assumes nothing.
-use borrow.Author.Rules.{rules}
 use mathlib.Core.Path.{refl}
 use Rattle.filing.proofs.slot_at.Goals as goal
 

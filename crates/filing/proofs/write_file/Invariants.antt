@@ -1,22 +1,14 @@
 -- `write_file`: before each turn the blocks so far stand in front, and the rest is as it was. Assumes nothing.
-use Prim.Native.Nat.{ℕ, ◌+◌, ◌-◌, ◌*◌, ◌≤◌}
-use native.Mathlib.Omega.{arith}
-use mathlib.Core.Path.{◌≡◌, refl, ap, ◌∙◌}
+use Prim.Native.Nat.{ℕ, ◌-◌, ◌*◌, ◌≤◌}
+use mathlib.Core.Path.{◌≡◌}
 use mathlib.Core.List.{List, ◌++◌}
 use lib.ListN.{length, drop, get_or}
-use borrow.Rule.Slice.PartMut.{same_len_mid}
 use Rattle.sheet.specs.Model.{Sheet}
 use Rattle.sheet.specs.Table.{Entry}
-use Rattle.sheet.specs.Arrays.{sheet_of}
-use Rattle.sheet.proofs.ArraysLaws.{length_sheet}
-use Rattle.order.specs.LentLaws.{place_small}
 use Rattle.blocks.specs.Sizes.{block_bytes}
-use Rattle.blocks.specs.File.{written, blocks_of}
+use Rattle.blocks.specs.File.{written}
 use Rattle.blocks.specs.Tab.{tab}
-use Rattle.blocks.specs.FileLaws.{block_more, block_first, jobs_block, rows_block}
 use Rattle.filing.specs.Filing.{entry_at}
-use Rattle.filing.specs.FilingLaws.{all_filed}
-use borrow.Author.Rules.{rules}
 use Rattle.filing.proofs.write_file.Given as goal
 
 -- the rows at the first places of an order

@@ -1,12 +1,9 @@
 -- `write_rows`: before each turn the header and the slots so far stand in front. Assumes nothing.
 use Prim.Native.Nat.{◌+◌, ◌-◌}
-use native.Mathlib.Omega.{arith}
-use mathlib.Core.Path.{refl}
 use lib.ListN.{get_or}
 use Rattle.blocks.specs.File.{row_slot}
-use Rattle.writer.specs.WriteLaws.{Filled, filled_none, filled_more, filled_all}
+use Rattle.writer.specs.WriteLaws.{Filled}
 use Rattle.filing.specs.Filing.{entry_at}
-use borrow.Author.Rules.{rules}
 use Rattle.filing.proofs.write_rows.Given as goal
 
 abbrev pub invariant-loop-s : goal.invariant-loop-s

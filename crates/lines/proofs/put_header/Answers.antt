@@ -2,7 +2,6 @@
 use native.Mathlib.Omega.{arith}
 use Rattle.lines.specs.Lines.{line}
 use Rattle.lines.specs.DigitsLaws.{length_8, length_32}
-use borrow.Author.Rules.{rules}
 use Rattle.lines.proofs.put_header.Goals as goal
 
 pub put_pair-requires : goal.put_pair-requires

@@ -1,12 +1,7 @@
 -- `put_jobs`: before each turn the jobs passed are printed. Assumes nothing.
 use Prim.Native.Nat.{◌-◌, ◌≤◌}
-use mathlib.Core.Path.{◌≡◌}
-use native.Mathlib.Omega.{arith}
 use Rattle.lines.specs.Lines.{jobs_text}
-use Rattle.lines.specs.LineLaws.{jobs_more, jobs_length}
 use Rattle.lines.specs.Printed.{Printed}
-use Rattle.lines.specs.PrintedLaws.{printed_none, printed_length, printed_then}
-use borrow.Author.Rules.{rules}
 use Rattle.lines.proofs.put_jobs.Given as goal
 
 abbrev pub invariant-loop-k : goal.invariant-loop-k

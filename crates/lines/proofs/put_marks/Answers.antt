@@ -2,7 +2,6 @@
 use native.Mathlib.Omega.{arith}
 use Rattle.lines.specs.LineLaws.{starts_length, tick_length}
 use Rattle.lines.specs.PrintedLaws.{printed_then}
-use borrow.Author.Rules.{rules}
 use Rattle.lines.proofs.put_marks.Goals as goal
 
 pub put-at-requires : goal.put-at-requires

@@ -1,7 +1,6 @@
 -- `put_pair`: each piece stands behind the one before. Assumes nothing.
 use native.Mathlib.Omega.{arith}
 use Rattle.lines.specs.PrintedLaws.{printed_then}
-use borrow.Author.Rules.{rules}
 use Rattle.lines.proofs.put_pair.Goals as goal
 
 pub put-at-requires : goal.put-at-requires

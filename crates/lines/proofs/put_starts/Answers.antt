@@ -3,7 +3,6 @@ use native.Mathlib.Omega.{arith}
 use Rattle.lines.specs.Lines.{jobs_text}
 use Rattle.lines.specs.LineLaws.{dash_none, dash_some}
 use Rattle.lines.specs.PrintedLaws.{printed_then}
-use borrow.Author.Rules.{rules}
 use Rattle.lines.proofs.put_starts.Goals as goal
 
 pub returns-then-next-at : goal.returns-then-next-at

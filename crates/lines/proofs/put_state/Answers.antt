@@ -1,12 +1,8 @@
 -- `put_state`: each piece stands behind the one before, and the state is that of the word. Assumes nothing.
-use Prim.Native.Nat.{ℕ, ◌≤◌}
 use native.Mathlib.Omega.{arith}
-use mathlib.Core.Path.{◌≡◌, subst}
-use mathlib.Core.List.{map}
-use lib.ListN.{length, get_or, take}
+use mathlib.Core.Path.{subst}
 use Rattle.sheet.specs.Model.{State}
 use Rattle.state.specs.Clocks.{model}
-use Rattle.lines.specs.Digits.{digit, decimal}
 use Rattle.lines.specs.Parts.{state_part}
 use Rattle.lines.specs.Printed.{Printed}
 use Rattle.lines.specs.LineLaws.{now_length, elapsed_length, known_statuses, so_many_statuses}

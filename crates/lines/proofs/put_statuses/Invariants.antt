@@ -1,14 +1,9 @@
 -- `put_statuses`: before each turn the statuses passed are printed. Assumes nothing.
 use Prim.Native.Nat.{◌-◌, ◌≤◌}
-use native.Mathlib.Omega.{arith}
-use mathlib.Core.Path.{◌≡◌}
 use mathlib.Core.List.{map}
 use lib.ListN.{take}
 use Rattle.lines.specs.Digits.{digit}
-use Rattle.lines.specs.LineLaws.{statuses_more, statuses_length}
 use Rattle.lines.specs.Printed.{Printed}
-use Rattle.lines.specs.PrintedLaws.{printed_none, printed_length, printed_then}
-use borrow.Author.Rules.{rules}
 use Rattle.lines.proofs.put_statuses.Given as goal
 
 abbrev pub invariant-loop-i : goal.invariant-loop-i

@@ -1,7 +1,6 @@
 -- `put_tick`: each arm prints its word. Assumes nothing.
 use native.Mathlib.Omega.{arith}
 use Rattle.lines.specs.LineLaws.{tick_length, else_held}
-use borrow.Author.Rules.{rules}
 use Rattle.lines.proofs.put_tick.Goals as goal
 
 pub put-requires : goal.put-requires

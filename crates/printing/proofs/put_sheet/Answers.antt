@@ -1,6 +1,5 @@
 -- `put_sheet`: what make replied is what is printed. Assumes nothing.
 use mathlib.Core.Path.{sym}
-use lib.ListN.{length}
 use lib.Seq.{length-take-le}
 use Rattle.printing.specs.MadeLaws.{made_refused, made_listed}
 use borrow.Author.Rules.{rules}

@@ -1,5 +1,4 @@
 -- `header_of`: each byte is the header's. Assumes nothing.
-use borrow.Author.Rules.{rules}
 use Rattle.writer.proofs.header_of.Goals as goal
 
 pub returns : goal.returns

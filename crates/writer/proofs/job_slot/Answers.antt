@@ -1,5 +1,4 @@
 -- `job_slot`: each byte is the slot's. Assumes nothing.
-use borrow.Author.Rules.{rules}
 use Rattle.writer.proofs.job_slot.Goals as goal
 
 pub returns : goal.returns

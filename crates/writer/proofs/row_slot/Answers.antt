@@ -1,6 +1,5 @@
 -- `row_slot`: each byte is the slot's. Assumes nothing.
 use mathlib.Core.Path.{refl}
-use borrow.Author.Rules.{rules}
 use Rattle.writer.proofs.row_slot.Goals as goal
 
 pub returns : goal.returns

@@ -1,6 +1,5 @@
 -- `seal`: the zeros, then the check of what stands before it. Assumes nothing.
 use Rattle.writer.specs.WriteLaws.{sealed_is}
-use borrow.Author.Rules.{rules}
 use Rattle.writer.proofs.seal.Goals as goal
 
 pub returns : goal.returns

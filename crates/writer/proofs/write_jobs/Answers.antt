@@ -1,13 +1,8 @@
 -- `write_jobs`: before each turn the header and the slots so far stand in front. Assumes nothing.
-use Prim.Native.Nat.{◌-◌}
 use native.Mathlib.Omega.{arith}
 use mathlib.Core.Path.{refl}
-use mathlib.Core.List.{[]}
-use lib.ListN.{get_or}
-use Rattle.sheet.specs.Arrays.{job_of}
-use Rattle.blocks.specs.File.{job_slot}
 use Rattle.blocks.specs.FileLaws.{sheet_tab}
-use Rattle.writer.specs.WriteLaws.{Filled, filled_none, filled_more, filled_all}
+use Rattle.writer.specs.WriteLaws.{filled_none, filled_more, filled_all}
 use borrow.Author.Rules.{rules}
 use Rattle.writer.proofs.write_jobs.Goals as goal
 

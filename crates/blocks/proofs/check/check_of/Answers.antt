@@ -1,14 +1,12 @@
 -- `check_of`: the sum is that of the bytes passed, the sums 1 plus their weighted sum; a turn adds at most 255, and 255 × 508.
 -- Assumes nothing.
-use Prim.Native.Nat.{◌+◌, ◌-◌, ◌*◌, ◌≤◌}
 use native.Mathlib.Omega.{arith}
 use mathlib.Core.Path.{◌≡◌, refl}
-use lib.ListN.{take, drop, length-take}
+use lib.ListN.{take, length-take}
 use Rattle.blocks.specs.Sizes.{body_bytes}
-use Rattle.blocks.specs.Bytes.{weighted, check_of}
+use Rattle.blocks.specs.Bytes.{check_of}
 use Rattle.blocks.specs.BytesLaws.{take_bytes}
-use Rattle.blocks.specs.CheckLaws.{sum_of, sum_none, sums_none, sum_down, sums_down, all_counted, check_le}
-use borrow.Author.Rules.{rules}
+use Rattle.blocks.specs.CheckLaws.{sum_none, sums_none, sum_down, sums_down, all_counted, check_le}
 use Rattle.blocks.proofs.check.check_of.Goals as goal
 
 pub loop-p-init : goal.loop-p-init

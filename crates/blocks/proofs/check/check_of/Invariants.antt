@@ -1,14 +1,11 @@
 -- `check_of`: the sum is that of the bytes passed, the sums 1 plus their weighted sum; a turn adds at most 255, and 255 × 508.
 -- Assumes nothing.
 use Prim.Native.Nat.{◌+◌, ◌-◌, ◌*◌, ◌≤◌}
-use native.Mathlib.Omega.{arith}
-use mathlib.Core.Path.{◌≡◌, refl}
-use lib.ListN.{take, drop, length-take}
+use mathlib.Core.Path.{◌≡◌}
+use lib.ListN.{take, drop}
 use Rattle.blocks.specs.Sizes.{body_bytes}
-use Rattle.blocks.specs.Bytes.{weighted, check_of}
-use Rattle.blocks.specs.BytesLaws.{take_bytes}
-use Rattle.blocks.specs.CheckLaws.{sum_of, sum_none, sums_none, sum_down, sums_down, all_counted, check_le}
-use borrow.Author.Rules.{rules}
+use Rattle.blocks.specs.Bytes.{weighted}
+use Rattle.blocks.specs.CheckLaws.{sum_of}
 use Rattle.blocks.proofs.check.check_of.Given as goal
 
 abbrev pub invariant-loop-p : goal.invariant-loop-p

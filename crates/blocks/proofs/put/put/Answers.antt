@@ -1,10 +1,9 @@
 -- `put`: of the bytes, those passed stand in their places. Assumes nothing.
-use Prim.Native.Nat.{◌-◌, ◌≤◌}
 use native.Mathlib.Omega.{arith}
 use native.Mathlib.Numerals.{add-one}
 use mathlib.Core.Path.{◌≡◌, refl}
 use lib.ListN.{length, length-set}
-use lib.Seq.{paste, paste-zero, paste-suc}
+use lib.Seq.{paste-zero, paste-suc}
 use borrow.Author.Rules.{rules}
 use Rattle.blocks.proofs.put.put.Goals as goal
 

@@ -1,9 +1,9 @@
 -- `put_zeros`: the zeros passed stand in their places. Assumes nothing.
-use Prim.Native.Nat.{◌-◌, ◌≤◌}
+use Prim.Native.Nat.{◌-◌}
 use native.Mathlib.Omega.{arith}
 use mathlib.Core.Path.{◌≡◌, refl}
-use lib.ListN.{length, replicate, length-set}
-use lib.Seq.{paste, paste-zero}
+use lib.ListN.{replicate, length-set}
+use lib.Seq.{paste-zero}
 use Rattle.blocks.specs.BytesLaws.{zero_more}
 use borrow.Author.Rules.{rules}
 use Rattle.blocks.proofs.put.put_zeros.Goals as goal

@@ -1,11 +1,8 @@
 -- `put_zeros`: the zeros passed stand in their places. Assumes nothing.
 use Prim.Native.Nat.{◌-◌, ◌≤◌}
-use native.Mathlib.Omega.{arith}
-use mathlib.Core.Path.{◌≡◌, refl}
-use lib.ListN.{length, replicate, length-set}
-use lib.Seq.{paste, paste-zero}
-use Rattle.blocks.specs.BytesLaws.{zero_more}
-use borrow.Author.Rules.{rules}
+use mathlib.Core.Path.{◌≡◌}
+use lib.ListN.{length, replicate}
+use lib.Seq.{paste}
 use Rattle.blocks.proofs.put.put_zeros.Given as goal
 
 abbrev pub invariant-loop-p : goal.invariant-loop-p

@@ -1,11 +1,6 @@
 -- Each status passed is at most 3, and past the eighth there is none. Assumes nothing.
 use Prim.Native.Nat.{ℕ, ◌-◌, ◌≤◌, ◌<◌}
-use native.Mathlib.Omega.{arith}
 use lib.ListN.{get_or}
-use borrow.Author.Count.{below_more}
-use borrow.Author.Rules.{rules}
-use Rattle.state.specs.Tell.{tell_yes, tell_no}
-use Rattle.desk.specs.StepLaws.{all_known}
 use Rattle.desk.proofs.desk.known.Given as goal
 
 abbrev pub invariant-loop-i : goal.invariant-loop-i

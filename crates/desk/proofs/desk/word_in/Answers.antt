@@ -1,6 +1,5 @@
 -- A desk with known statuses has the word of its state. Assumes nothing.
 use mathlib.Core.Path.{sym, ap, subst, ◌∙◌}
-use borrow.Author.Rules.{rules}
 use borrow.Author.Tests.{not-true, not-false}
 use Rattle.sheet.specs.Model.{State, word}
 use Rattle.state.specs.Clocks.{Known}

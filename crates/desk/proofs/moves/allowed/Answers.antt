@@ -1,6 +1,5 @@
 -- Each case of the event is its case of the definition. Assumes nothing.
 use mathlib.Core.Path.{refl, subst}
-use borrow.Author.Rules.{rules}
 use Rattle.plant.specs.Reflect.{is_eq}
 use Rattle.state.specs.Tell.{same_test}
 use Rattle.desk.specs.Moving.{JobFits}

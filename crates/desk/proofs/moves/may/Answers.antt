@@ -1,6 +1,5 @@
 -- A bit of the look is the test of its event. Assumes nothing.
 use mathlib.Core.Path.{refl, subst}
-use borrow.Author.Rules.{rules}
 use Rattle.desk.specs.Moving.{JobFits}
 use Rattle.desk.specs.MoveLaws.{look_tick, look_arrival, look_start, look_ending}
 use Rattle.state.specs.Clocks.{model}

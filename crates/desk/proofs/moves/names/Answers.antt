@@ -1,6 +1,5 @@
 -- Each case of the event is its case of the definition. Assumes nothing.
 use mathlib.Core.Path.{refl}
-use borrow.Author.Rules.{rules}
 use Rattle.desk.proofs.moves.names.Goals as goal
 
 pub returns-in-Tick : goal.returns-in-Tick

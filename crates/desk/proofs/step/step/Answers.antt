@@ -1,7 +1,6 @@
 -- The row call tells a bad file from a good one. Assumes nothing.
 use Prim.Native.Nat.{ℕ}
 use mathlib.Core.Path.{ap, ◌∙◌}
-use borrow.Author.Rules.{rules}
 use Rattle.table.specs.Read.{reading}
 use Rattle.table.specs.Replies.{lookup}
 use Rattle.desk.specs.StepLaws.{good_told, bad_told}

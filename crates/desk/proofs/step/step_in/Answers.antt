@@ -18,11 +18,10 @@ use Rattle.state.specs.EventByte.{kind_of}
 use Rattle.state.specs.Tell.{told_yes, told_no}
 use Rattle.blocks.specs.Sizes.{block_bytes}
 use Rattle.table.specs.Reading.{good, Says}
-use Rattle.table.specs.Read.{reading}
 use Rattle.table.specs.Replies.{lookup}
 use Rattle.table.specs.declared.row.RowReply.{RowReply}
 use Rattle.table.specs.PlaceLaws.{jobs_number}
-use Rattle.desk.specs.Stepping.{state_in, known, on, names, allows, stays, asked, step_reply}
+use Rattle.desk.specs.Stepping.{state_in, known, on, names, allows}
 use Rattle.desk.specs.FirstBlock.{said, looked}
 use Rattle.desk.specs.StepLaws.{is_known, for_event, nine, eight_unknown, eight, ten, eleven, taken}
 use Rattle.desk.specs.MoveLaws.{job_fits, fits_in}

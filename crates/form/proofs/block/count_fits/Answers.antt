@@ -1,7 +1,6 @@
 -- Only the last block may have fewer rows. Assumes nothing.
 use mathlib.Core.Path.{◌∙◌}
 use native.Mathlib.Omega.{arith}
-use borrow.Author.Rules.{rules}
 use Rattle.state.specs.Tell.{tell_no}
 use Rattle.form.proofs.block.count_fits.Goals as goal
 

@@ -1,6 +1,5 @@
 -- Block 1 and the blocks after it. Assumes nothing.
 use native.Mathlib.Omega.{arith}
-use borrow.Author.Rules.{rules}
 use Rattle.state.specs.Tell.{tell_no}
 use Rattle.form.proofs.block.follows.Goals as goal
 

@@ -1,11 +1,8 @@
 -- Each job passed is of good form. Assumes nothing.
-use Prim.Native.Nat.{ℕ, ◌-◌, ◌≤◌, ◌<◌}
 use native.Mathlib.Omega.{arith}
 use borrow.Author.Rules.{rules}
 use borrow.Author.Count.{below_more}
 use borrow.Author.Tests.{not-true, not-false}
-use Rattle.sheet.specs.Model.{GoodJob}
-use Rattle.blocks.specs.Fields.{slot_at, job_from}
 use Rattle.state.specs.Tell.{tell_yes, tell_no, told_yes, told_no}
 use Rattle.form.proofs.block.jobs_good.Goals as goal
 

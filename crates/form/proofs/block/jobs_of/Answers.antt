@@ -1,5 +1,4 @@
 -- Eight slots of four numbers each, in their places. Assumes nothing.
-use borrow.Author.Rules.{rules}
 use Rattle.blocks.specs.Tab.{tab}
 use Rattle.form.specs.BlockTest.{fours}
 use Rattle.form.proofs.block.jobs_of.Goals as goal

@@ -1,6 +1,5 @@
 -- The slot's two zero bytes, its row, and the word before it. Assumes nothing.
 use native.Mathlib.Omega.{arith}
-use borrow.Author.Rules.{rules}
 use borrow.Author.Tests.{not-true, not-false}
 use Rattle.state.specs.Tell.{tell_yes, tell_no, told_yes, told_no}
 use Rattle.form.proofs.block.slot_good.Goals as goal

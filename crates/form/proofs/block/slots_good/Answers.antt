@@ -1,12 +1,9 @@
 -- Each slot passed is good. Assumes nothing.
-use Prim.Native.Nat.{ℕ, ◌-◌, ◌≤◌, ◌<◌}
 use native.Mathlib.Omega.{arith}
 use borrow.Author.Rules.{rules}
 use borrow.Author.Count.{below_more}
 use borrow.Author.Tests.{not-true, not-false}
-use Rattle.sheet.specs.Arrays.{sheet_of}
 use Rattle.state.specs.Tell.{tell_yes, tell_no, told_yes, told_no}
-use Rattle.form.specs.BlockTest.{SlotGood}
 use Rattle.form.proofs.block.slots_good.Goals as goal
 
 pub loop-s-init : goal.loop-s-init

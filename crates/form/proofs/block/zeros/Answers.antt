@@ -1,8 +1,5 @@
 -- Each byte passed is 0. Assumes nothing.
-use Prim.Native.Nat.{ℕ, ◌-◌, ◌≤◌, ◌<◌}
-use mathlib.Core.Path.{◌≡◌}
 use native.Mathlib.Omega.{arith}
-use lib.ListN.{get_or}
 use borrow.Author.Rules.{rules}
 use Rattle.state.specs.Tell.{tell_yes, tell_no}
 use Rattle.form.specs.Loops.{between_more}

@@ -1,11 +1,7 @@
 -- Each byte passed is 0. Assumes nothing.
 use Prim.Native.Nat.{ℕ, ◌-◌, ◌≤◌, ◌<◌}
 use mathlib.Core.Path.{◌≡◌}
-use native.Mathlib.Omega.{arith}
 use lib.ListN.{get_or}
-use borrow.Author.Rules.{rules}
-use Rattle.state.specs.Tell.{tell_yes, tell_no}
-use Rattle.form.specs.Loops.{between_more}
 use Rattle.form.proofs.block.zeros.Given as goal
 
 abbrev pub invariant-loop-p : goal.invariant-loop-p

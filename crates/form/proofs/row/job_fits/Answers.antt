@@ -1,6 +1,5 @@
 -- Each status asks its rule. Assumes nothing.
 use native.Mathlib.Omega.{arith}
-use borrow.Author.Rules.{rules}
 use Rattle.sheet.specs.Arrays.{job_of}
 use Rattle.state.specs.Tell.{tell_no}
 use Rattle.form.specs.TestLaws.{one_bit, fits_ready, fits_marked, fits_waiting, fits_done, fits_running}

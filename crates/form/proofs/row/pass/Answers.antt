@@ -1,5 +1,4 @@
 -- Each job passed fits, and what is told of them grows by one job. Assumes nothing.
-use Prim.Native.Nat.{◌-◌, ◌≤◌}
 use mathlib.Core.Path.{◌≡◌}
 use native.Mathlib.Omega.{arith}
 use borrow.Author.Rules.{rules}
@@ -8,8 +7,6 @@ use Rattle.sheet.specs.Model.{state_of}
 use Rattle.sheet.proofs.WordLaws.{digits_lt}
 use Rattle.sheet.specs.Arrays.{sheet_of}
 use Rattle.state.specs.Tell.{told_yes, told_no}
-use Rattle.form.specs.declared.row.Seen.TheVariants.{Passed}
-use Rattle.form.specs.RowTest.{Tells}
 use Rattle.form.specs.PassLaws.{pass_none, not_fit, two_run, pass_more}
 use Rattle.form.proofs.row.pass.Goals as goal
 

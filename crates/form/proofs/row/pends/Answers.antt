@@ -1,5 +1,4 @@
 -- The arrival is pending at its own tick. Assumes nothing.
-use borrow.Author.Rules.{rules}
 use Rattle.plant.specs.Reflect.{is_eq, is_and}
 use Rattle.sheet.specs.Arrays.{job_of}
 use Rattle.form.proofs.row.pends.Goals as goal

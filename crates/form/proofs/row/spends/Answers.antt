@@ -1,5 +1,4 @@
 -- A running job has had its most ticks. Assumes nothing.
-use borrow.Author.Rules.{rules}
 use Rattle.plant.specs.Reflect.{is_eq, is_and}
 use Rattle.sheet.specs.Arrays.{job_of}
 use Rattle.form.proofs.row.spends.Goals as goal

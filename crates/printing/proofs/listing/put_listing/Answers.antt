@@ -9,7 +9,6 @@ use Rattle.lines.specs.Printed.{Printed}
 use Rattle.lines.specs.LineLaws.{header_length}
 use Rattle.lines.specs.PrintedLaws.{printed_length, printed_then}
 use Rattle.printing.specs.RowLinesLaws.{jobs_few, lines_listing}
-use borrow.Author.Rules.{rules}
 use Rattle.printing.proofs.listing.put_listing.Goals as goal
 
 pub overflow_cast-count : goal.overflow_cast-count

@@ -1,11 +1,7 @@
 -- `put_rows`: before each turn the rows passed are printed. Assumes nothing.
-use Prim.Native.Nat.{◌+◌, ◌-◌, ◌*◌, ◌≤◌}
 use mathlib.Core.Path.{◌≡◌}
 use native.Mathlib.Omega.{arith}
-use Rattle.lines.specs.Lines.{line_bytes}
-use Rattle.lines.specs.Printed.{Printed}
 use Rattle.lines.specs.PrintedLaws.{printed_none, printed_length, printed_then}
-use Rattle.printing.specs.RowLines.{lines_of}
 use Rattle.printing.specs.RowLinesLaws.{lines_none, lines_more}
 use borrow.Author.Rules.{rules}
 use Rattle.printing.proofs.listing.put_rows.Goals as goal

@@ -1,6 +1,5 @@
 -- Each arm of the match is its case of the definition; the last is reached between the ranges and past them.
 use native.Mathlib.Omega.{arith}
-use borrow.Author.Rules.{rules}
 use Rattle.state.specs.EventLaws.{tick_is, arrival_is, start_is, ending_is, nothing_is}
 use Rattle.state.proofs.event.event_of.Goals as goal
 

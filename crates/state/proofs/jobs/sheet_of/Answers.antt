@@ -1,5 +1,4 @@
 -- Eight jobs of four numbers each, in their places. Assumes nothing.
-use borrow.Author.Rules.{rules}
 use Rattle.sheet.specs.Arrays.{arrays}
 use Rattle.state.proofs.jobs.sheet_of.Goals as goal
 

@@ -1,9 +1,7 @@
 -- After i turns the first i statuses are the word's first i digits, and the others are the digits of the rest.
-use Prim.Native.Nat.{◌-◌, ◌/◌, ◌≤◌}
+use Prim.Native.Nat.{◌/◌}
 use native.Mathlib.Omega.{arith}
-use mathlib.Core.Path.{◌≡◌, refl}
-use mathlib.Core.List.{◌++◌}
-use lib.ListN.{length, take}
+use mathlib.Core.Path.{refl}
 use borrow.Author.Rules.{rules}
 use Rattle.sheet.specs.Model.{digits}
 use Rattle.state.proofs.Packing.{low_two, low_byte, unpack_turn, unpacked}

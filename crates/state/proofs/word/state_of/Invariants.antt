@@ -1,12 +1,9 @@
 -- After i turns the first i statuses are the word's first i digits, and the others are the digits of the rest.
-use Prim.Native.Nat.{◌-◌, ◌/◌, ◌≤◌}
-use native.Mathlib.Omega.{arith}
-use mathlib.Core.Path.{◌≡◌, refl}
+use Prim.Native.Nat.{◌-◌, ◌≤◌}
+use mathlib.Core.Path.{◌≡◌}
 use mathlib.Core.List.{◌++◌}
 use lib.ListN.{length, take}
-use borrow.Author.Rules.{rules}
 use Rattle.sheet.specs.Model.{digits}
-use Rattle.state.proofs.Packing.{low_two, low_byte, unpack_turn, unpacked}
 use Rattle.state.proofs.word.state_of.Given as goal
 
 abbrev pub invariant-loop-i : goal.invariant-loop-i

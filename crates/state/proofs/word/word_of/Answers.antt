@@ -1,8 +1,7 @@
 -- Where i statuses are left, the word so far is that of the statuses from i on.
-use Prim.Native.Nat.{◌≤◌, ◌<◌}
+use Prim.Native.Nat.{◌<◌}
 use native.Mathlib.Omega.{arith}
 use mathlib.Core.Path.{◌≡◌, refl}
-use lib.ListN.{drop}
 use borrow.Author.Rules.{rules}
 use Rattle.sheet.specs.Model.{digits_word}
 use Rattle.state.proofs.Packing.{none_packed, packed_lt, pack_turn, join}

@@ -1,11 +1,8 @@
 -- Where i statuses are left, the word so far is that of the statuses from i on.
-use Prim.Native.Nat.{◌≤◌, ◌<◌}
-use native.Mathlib.Omega.{arith}
-use mathlib.Core.Path.{◌≡◌, refl}
+use Prim.Native.Nat.{◌≤◌}
+use mathlib.Core.Path.{◌≡◌}
 use lib.ListN.{drop}
-use borrow.Author.Rules.{rules}
 use Rattle.sheet.specs.Model.{digits_word}
-use Rattle.state.proofs.Packing.{none_packed, packed_lt, pack_turn, join}
 use Rattle.state.proofs.word.word_of.Given as goal
 
 abbrev pub invariant-loop-i : goal.invariant-loop-i

@@ -1,7 +1,6 @@
 -- A length that files have, and then what the test of block 0 tells. Assumes nothing.
 use native.Mathlib.Omega.{arith}
 use lib.ListN.{length-take}
-use borrow.Author.Rules.{rules}
 use Rattle.blocks.specs.Sizes.{block_bytes}
 use Rattle.table.specs.FileRight.{sized_of, length_bad, opened}
 use Rattle.table.proofs.judge.opens.Goals as goal

@@ -1,5 +1,4 @@
 -- A file that does not open is bad in block 0; another is read on. Assumes nothing.
-use borrow.Author.Rules.{rules}
 use borrow.Author.Tests.{not-true, not-false}
 use Rattle.table.specs.FileRight.{opened_yes, opened_no}
 use Rattle.table.specs.PastLaws.{not_opened}

@@ -1,10 +1,9 @@
 -- The blocks passed end below the word; the next one is bad, ends the reading, or is passed too. Assumes nothing.
-use Prim.Native.Nat.{ℕ, ◌+◌, ◌-◌, ◌≤◌, ◌<◌}
+use Prim.Native.Nat.{ℕ, ◌+◌, ◌<◌}
 use mathlib.Core.Path.{◌≡◌, refl}
 use mathlib.Core.List.{List}
 use native.Mathlib.Omega.{arith}
 use lib.ListN.{get_or, length-take}
-use borrow.Author.Rules.{rules}
 use borrow.Author.Tests.{not-true, not-false}
 use Rattle.sheet.specs.Arrays.{sheet_of}
 use Rattle.blocks.specs.Sizes.{block_bytes}

@@ -2,7 +2,6 @@
 use Prim.Native.Nat.{◌+◌, ◌-◌, ◌*◌}
 use mathlib.Core.Path.{◌≡◌}
 use native.Mathlib.Omega.{arith}
-use borrow.Author.Rules.{rules}
 use Rattle.blocks.specs.Sizes.{block_bytes}
 use Rattle.table.proofs.judge.rows_good.Goals as goal
 

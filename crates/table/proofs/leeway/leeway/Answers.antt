@@ -3,7 +3,6 @@ use Prim.Native.Nat.{ℕ}
 use mathlib.Core.Path.{refl, subst}
 use mathlib.Core.List.{List}
 use native.Mathlib.Omega.{arith}
-use borrow.Author.Rules.{rules}
 use Rattle.blocks.specs.Bytes.{EachByte}
 use Rattle.table.specs.Reading.{bad}
 use Rattle.table.specs.ReadFor.{past_all}

@@ -1,8 +1,6 @@
 -- A row number from 1 to the count is that of a row. Assumes nothing.
-use Prim.Native.Nat.{◌≤◌}
 use mathlib.Core.Path.{sym}
 use native.Mathlib.Omega.{arith}
-use borrow.Author.Rules.{rules}
 use Rattle.table.specs.PlaceLaws.{rows_few, places_end}
 use Rattle.table.specs.ListingLaws.{list_low, list_high, list_found}
 use Rattle.table.proofs.listing.listing_in.Goals as goal

@@ -1,12 +1,9 @@
 -- Each number passed stands in its place. Assumes nothing.
 use Prim.Native.Nat.{ℕ, ◌+◌, ◌-◌, ◌*◌, ◌≤◌, ◌<◌}
-use mathlib.Core.Path.{◌≡◌, refl}
-use native.Mathlib.Omega.{arith}
-use lib.ListN.{length, get_or, length-set}
-use borrow.Author.Rules.{rules}
+use mathlib.Core.Path.{◌≡◌}
+use lib.ListN.{length, get_or}
 use Rattle.blocks.specs.Sizes.{header_bytes}
 use Rattle.blocks.specs.Bytes.{u16_at}
-use Rattle.table.specs.ListingLaws.{numbers_tab, fill_turn}
 use Rattle.table.proofs.listing.numbers_of.Given as goal
 
 abbrev pub invariant-loop-i : goal.invariant-loop-i

@@ -1,6 +1,5 @@
 -- The rows of the blocks up to the last. Assumes nothing.
 use native.Mathlib.Omega.{arith}
-use borrow.Author.Rules.{rules}
 use Rattle.table.proofs.place.count_rows.Goals as goal
 
 pub rows_to-requires : goal.rows_to-requires

@@ -1,10 +1,7 @@
 -- What is below stays below, and what is not stays not. Assumes nothing.
 use Prim.Native.Nat.{ℕ, ◌-◌, ◌≤◌, ◌<◌}
-use native.Mathlib.Omega.{arith}
-use borrow.Author.Rules.{rules}
 use Rattle.blocks.specs.Bytes.{u32_at}
 use Rattle.table.specs.Places.{place}
-use Rattle.table.specs.PlaceLaws.{search_up, search_down}
 use Rattle.table.proofs.place.lower.Given as goal
 
 abbrev pub invariant-loop-lo : goal.invariant-loop-lo

@@ -1,6 +1,5 @@
 -- The byte of slots used, in its block. Assumes nothing.
 use native.Mathlib.Omega.{arith}
-use borrow.Author.Rules.{rules}
 use Rattle.table.specs.ReadingLaws.{at_block}
 use Rattle.table.proofs.place.rows_to.Goals as goal
 

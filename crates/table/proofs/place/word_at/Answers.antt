@@ -1,7 +1,6 @@
 -- The number at the row's place. Assumes nothing.
 use Prim.Native.Nat.{ℕ}
 use mathlib.Core.Path.{ap, ◌∙◌}
-use borrow.Author.Rules.{rules}
 use Rattle.blocks.specs.Bytes.{u32_at}
 use Rattle.table.proofs.place.word_at.Goals as goal
 

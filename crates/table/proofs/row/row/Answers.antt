@@ -1,6 +1,5 @@
 -- The whole file says one thing only, and the reply is the reply to that. Assumes nothing.
 use native.Mathlib.Omega.{arith}
-use borrow.Author.Rules.{rules}
 use Rattle.table.specs.ReadForLaws.{whole_answer}
 use Rattle.table.specs.Replies.{row_reply}
 use Rattle.table.proofs.row.row.Goals as goal

@@ -1,7 +1,6 @@
 -- The word stands at one place, or at none. Assumes nothing.
 use mathlib.Core.Path.{sym, subst, ◌∙◌}
 use native.Mathlib.Omega.{arith}
-use borrow.Author.Rules.{rules}
 use Rattle.table.specs.Places.{Finds}
 use Rattle.table.specs.PlaceLaws.{read_few, lies_end}
 use Rattle.table.specs.RowLaws.{lookup_none, lookup_found}

@@ -1,6 +1,5 @@
 -- The two bytes behind the row's word. Assumes nothing.
 use mathlib.Core.Path.{refl}
-use borrow.Author.Rules.{rules}
 use Rattle.table.proofs.row.row_at.Goals as goal
 
 pub returns : goal.returns

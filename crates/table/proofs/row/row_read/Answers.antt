@@ -1,6 +1,5 @@
 -- The bad block, or the row among the rows read. Assumes nothing.
 use mathlib.Core.Path.{refl, subst}
-use borrow.Author.Rules.{rules}
 use Rattle.table.specs.Reading.{good, bad}
 use Rattle.table.specs.Judging.{Judged}
 use Rattle.table.proofs.row.row_read.Goals as goal

@@ -5,7 +5,7 @@ use mathlib.Core.Path.{◌≡◌, subst}
 use mathlib.Core.Logic.{inl, inr}
 use mathlib.Core.List.{List}
 use lib.ListN.{length, drop, length-drop}
-use Rattle.text.specs.Fields.{SoFar, Fronted, FoundTo, ending}
+use Rattle.text.specs.Fields.{Fronted, FoundTo, ending}
 use Rattle.text.specs.declared.read.Found.TheVariants.{Nothing}
 use Rattle.text.specs.RunLaws.{ending_other}
 use Rattle.text.specs.ReadLaws.{so_far_none, so_far_more, so_far_stuck, so_far_full, so_far_short, so_far_whole}
