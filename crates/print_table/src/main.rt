@@ -30,7 +30,7 @@ fn read_text<R: Read>(input: &mut R, text: &mut [u8]) -> io::Result<usize>
 // Where a read fails it says so and answers 0: the bytes that came before are not the text, and could be a shorter sheet. No bytes are
 // refused as a text of another form.
 fn read_or_tell<R: Read>(rt: &impl Eprint, input: &mut R, text: &mut [u8]) -> usize
-    ensures { result ≤ length text.new }
+    ensures { (result ≤ length text.new) × (result ≡ length (take result text.new)) }
 {
     match read_text(input, text) {
         Ok(end) => end,
