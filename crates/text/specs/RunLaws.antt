@@ -35,14 +35,14 @@ same_number e n (a ∷ s) (b ∷ t) x y f g q =
     ((λ i. h i ∷ r.0 i), r.1)
 
 -- what follows the numbers `l` in a run
-pub record Goes_on (k : ℕ) (l m : List (List ℕ)) (rest : List ℕ) : Type 0 where
+pub record GoesOn (k : ℕ) (l m : List (List ℕ)) (rest : List ℕ) : Type 0 where
   pub others : List (List ℕ)
   pub all : m ≡ l ++ others
   pub each : Numbers others
   pub follows : rest ≡ run (k + length l) others
 
 -- a run that begins with the numbers `l` goes on with numbers
-pub goes_on : (k : ℕ) (l m : List (List ℕ)) (rest : List ℕ) → Numbers l → Numbers m → run k l ++ rest ≡ run k m → Goes_on k l m rest
+pub goes_on : (k : ℕ) (l m : List (List ℕ)) (rest : List ℕ) → Numbers l → Numbers m → run k l ++ rest ≡ run k m → GoesOn k l m rest
 unfolding run
 goes_on k [] m rest f g q = record { others = m; all = refl; each = g; follows = q ∙ ap (λ (j : ℕ). run j m) (sym (add-zero k)) }
 goes_on k (s ∷ l) [] rest f g q = absurd (omega (arith, ap length q, length-append (s ++ (ending k ∷ run (suc k) l)) rest, length-append s (ending k ∷ run (suc k) l)))
