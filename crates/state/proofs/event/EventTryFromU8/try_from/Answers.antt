@@ -1,7 +1,7 @@
 -- Each arm of the match is its case of the definition; the last is reached between the ranges and past them.
 use native.Mathlib.Omega.{arith}
 use Rattle.state.specs.EventLaws.{tick_is, arrival_is, start_is, ending_is, nothing_is}
-use Rattle.state.proofs.event.event_of.Goals as goal
+use Rattle.state.proofs.event.EventTryFromU8.try_from.Goals as goal
 
 pub returns-in-0 : goal.returns-in-0
 returns-in-0 c = tick_is _ (omega arith)
