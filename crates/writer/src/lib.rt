@@ -10,7 +10,6 @@ ghost use Rattle.blocks.specs.Tab.{row_of};
 
 use blocks::check;
 use blocks::letters::LETTERS;
-use blocks::numbers::{bytes32, high, low};
 use blocks::put::{put, put_zeros};
 use blocks::sizes::{BLOCK, BODY, HEADER, SLOT, SLOTS};
 
@@ -18,15 +17,10 @@ use blocks::sizes::{BLOCK, BODY, HEADER, SLOT, SLOTS};
 pub fn header_of(n: u8, used: u8, k: u16, total: u16) -> [u8; HEADER]
     ensures { result ≡ header n used k total }
 {
+    let k = k.to_le_bytes();
+    let total = total.to_le_bytes();
     [
-        LETTERS[0],
-        LETTERS[1],
-        n,
-        used,
-        low(k),
-        high(k),
-        low(total),
-        high(total),
+        LETTERS[0], LETTERS[1], n, used, k[0], k[1], total[0], total[1],
     ]
 }
 
@@ -34,54 +28,41 @@ pub fn header_of(n: u8, used: u8, k: u16, total: u16) -> [u8; HEADER]
 fn job_slot(job: [u16; 4]) -> [u8; SLOT]
     ensures { result ≡ job_slot (job_of job) }
 {
-    let a = job[0];
-    let b = job[1];
-    let w = job[2];
-    let d = job[3];
-    [
-        low(a),
-        high(a),
-        low(b),
-        high(b),
-        low(w),
-        high(w),
-        low(d),
-        high(d),
-    ]
+    let a = job[0].to_le_bytes();
+    let b = job[1].to_le_bytes();
+    let w = job[2].to_le_bytes();
+    let d = job[3].to_le_bytes();
+    [a[0], a[1], b[0], b[1], w[0], w[1], d[0], d[1]]
 }
 
 // A row's slot: its word, starts and tick code, and two zeros. A mark's two low bytes are the starts and the tick code.
 pub fn row_slot(word: u32, mark: u32) -> [u8; SLOT]
     ensures { result ≡ row_slot (row_of word mark) }
 {
-    let w = bytes32(word);
-    let m = bytes32(mark);
+    let w = word.to_le_bytes();
+    let m = mark.to_le_bytes();
     [w[0], w[1], w[2], w[3], m[0], m[1], 0, 0]
 }
 
 // Ends a block whose header and slots stand up to a place: zeros behind them, and the check of all that.
-pub fn seal(part: &mut [u8], at: usize)
-    requires { (length part.old ≡ block_bytes) × (at ≤ body_bytes) }
+pub fn seal(part: &mut [u8; BLOCK], at: usize)
+    requires { at ≤ body_bytes }
     ensures { part.new ≡ sealed (take at part.old) }
 {
     put_zeros(part, at, BODY);
-    let bytes = bytes32(check::check_of(part));
-    put(part, BODY, &bytes);
+    let check = check::check_of(part);
+    put(part, BODY, &check.to_le_bytes());
 }
 
 // Writes block 0 of a file: the header, a slot a job, zeros and the check, each put behind what stands already.
-pub fn write_jobs(part: &mut [u8], n: u8, total: u16, jobs: [[u16; 4]; 8])
-    requires { (length part.old ≡ block_bytes) × (n ≤ most_jobs) }
+pub fn write_jobs(part: &mut [u8; BLOCK], n: u8, total: u16, jobs: [[u16; 4]; 8])
+    requires { n ≤ most_jobs }
     ensures { part.new ≡ block_of n 0 total (map job_slot (sheet_of jobs n)) }
 {
-    let head = header_of(n, n, 0, total);
-    put(part, 0, &head);
-    let many = n as usize;
-    let mut s: usize = 0;
-    while s < many {
-        let slot = job_slot(jobs[s]);
-        put(part, HEADER + SLOT * s, &slot);
-        s += 1;
+    put(part, 0, &header_of(n, n, 0, total));
+    let many = usize::from(n);
+    for (s, job) in jobs[..many].iter().enumerate() {
+        put(part, HEADER + SLOT * s, &job_slot(*job));
     }
     seal(part, HEADER + SLOT * many);
 }
@@ -90,10 +71,7 @@ pub fn write_jobs(part: &mut [u8], n: u8, total: u16, jobs: [[u16; 4]; 8])
 pub fn used_by(left: usize) -> u8
     ensures { (result ≡ min block_slots left) × (result ≤ block_slots) }
 {
-    if left < SLOTS {
-        return left as u8;
-    }
-    SLOTS as u8
+    left.min(SLOTS) as u8
 }
 
 // The blocks of a file of so many rows: block 0, and one for each 62 rows or fewer.
@@ -101,7 +79,7 @@ pub fn blocks_of(count: usize) -> usize
     requires { count ≤ most_rows }
     ensures { result ≡ blocks_of count }
 {
-    1 + (count + (SLOTS - 1)) / SLOTS
+    1 + count.div_ceil(SLOTS)
 }
 
 // The bytes of a file of so many rows.
