@@ -3,6 +3,7 @@
 
 #![tactic(auto)]
 
+pub mod block;
 pub mod check;
 pub mod letters;
 pub mod numbers;

@@ -5,7 +5,8 @@ use Rattle.std.proofs.Math.Decide.{dec_le}
 use Rattle.plant.specs.Range.{In}
 use Rattle.plant.specs.Marks.{Has}
 use Rattle.plant.specs.Reflect.{Is, is_map, is_eq, is_and, is_true}
-use Rattle.sheet.specs.Model.{Job, Sheet, job, State, status, state_of}
+use Rattle.sheet.specs.declared.Job.{Job}
+use Rattle.sheet.specs.Model.{Sheet, job, State, status, state_of}
 use Rattle.sheet.specs.Arrays.{job_of, sheet_of}
 use Rattle.sheet.proofs.ArraysLaws.{job_suc}
 use Rattle.state.specs.Tell.{tell_no, told_yes, told_no}

@@ -3,7 +3,8 @@ use Rattle.std.specs.Prelude.{ℕ, ◌+◌, ◌≤◌, ◌<◌, ◌≡◌, ◌�
 use Rattle.plant.specs.Range.{In}
 use Rattle.plant.specs.Marks.{Has}
 use Rattle.plant.specs.Reflect.{Is}
-use Rattle.sheet.specs.Model.{Job, Sheet, job, State, status}
+use Rattle.sheet.specs.declared.Job.{Job}
+use Rattle.sheet.specs.Model.{Sheet, job, State, status}
 use Rattle.sheet.specs.Form.{Timely}
 use Rattle.form.specs.declared.row.Seen.{Seen}
 use Rattle.form.specs.declared.row.Seen.TheVariants.{Refused, Passed}

@@ -3,15 +3,17 @@
 #![tactic(auto)]
 
 ghost use Rattle.std.specs.Prelude.{◌≡◌, map, ◌≤◌, ◌+◌, ◌*◌, min, length, take};
-ghost use Rattle.blocks.specs.Sizes.{block_bytes, body_bytes, block_slots, most_jobs, most_rows};
+ghost use Rattle.blocks.specs.Sizes.{block_bytes, body_bytes, block_slots, most_rows};
 ghost use Rattle.blocks.specs.File.{header, sealed, block_of, job_slot, row_slot, blocks_of};
-ghost use Rattle.sheet.specs.Arrays.{job_of, sheet_of};
 ghost use Rattle.blocks.specs.Tab.{row_of};
 
-use blocks::check;
+use blocks::block::as_block;
+use blocks::check::check_of;
 use blocks::letters::LETTERS;
 use blocks::put::{put, put_zeros};
 use blocks::sizes::{BLOCK, BODY, HEADER, SLOT, SLOTS};
+use sheet::Job;
+use state::jobs::JobSheet;
 
 // The bytes before the slots: letters, jobs, slots used, block number, number of blocks.
 pub fn header_of(n: u8, used: u8, k: u16, total: u16) -> [u8; HEADER]
@@ -25,14 +27,16 @@ pub fn header_of(n: u8, used: u8, k: u16, total: u16) -> [u8; HEADER]
 }
 
 // A job's slot: its four numbers in two bytes each.
-fn job_slot(job: [u16; 4]) -> [u8; SLOT]
-    ensures { result ≡ job_slot (job_of job) }
+fn job_slot(job: Job) -> [u8; SLOT]
+    ensures { result ≡ job_slot job }
 {
-    let a = job[0].to_le_bytes();
-    let b = job[1].to_le_bytes();
-    let w = job[2].to_le_bytes();
-    let d = job[3].to_le_bytes();
-    [a[0], a[1], b[0], b[1], w[0], w[1], d[0], d[1]]
+    let arrives = job.arrives.to_le_bytes();
+    let fewest = job.fewest.to_le_bytes();
+    let most = job.most.to_le_bytes();
+    let due = job.due.to_le_bytes();
+    [
+        arrives[0], arrives[1], fewest[0], fewest[1], most[0], most[1], due[0], due[1],
+    ]
 }
 
 // A row's slot: its word, starts and tick code, and two zeros. A mark's two low bytes are the starts and the tick code.
@@ -45,26 +49,27 @@ pub fn row_slot(word: u32, mark: u32) -> [u8; SLOT]
 }
 
 // Ends a block whose header and slots stand up to a place: zeros behind them, and the check of all that.
-pub fn seal(part: &mut [u8; BLOCK], at: usize)
-    requires { at ≤ body_bytes }
+// A part that is written stays a slice (tried: once an array lent from a slice ends, a proof knows its length alone).
+pub fn seal(part: &mut [u8], at: usize)
+    requires { (length part.old ≡ block_bytes) × (at ≤ body_bytes) }
     ensures { part.new ≡ sealed (take at part.old) }
 {
     put_zeros(part, at, BODY);
-    let check = check::check_of(part);
+    let check = check_of(as_block(part));
     put(part, BODY, &check.to_le_bytes());
 }
 
 // Writes block 0 of a file: the header, a slot a job, zeros and the check, each put behind what stands already.
-pub fn write_jobs(part: &mut [u8; BLOCK], n: u8, total: u16, jobs: [[u16; 4]; 8])
-    requires { n ≤ most_jobs }
-    ensures { part.new ≡ block_of n 0 total (map job_slot (sheet_of jobs n)) }
+pub fn write_jobs(part: &mut [u8], total: u16, sheet: &JobSheet)
+    requires { length part.old ≡ block_bytes }
+    ensures { part.new ≡ block_of (length sheet.now) 0 total (map job_slot sheet.now) }
 {
-    put(part, 0, &header_of(n, n, 0, total));
-    let many = usize::from(n);
-    for (s, job) in jobs[..many].iter().enumerate() {
+    let count = sheet.count();
+    put(part, 0, &header_of(count as u8, count as u8, 0, total));
+    for (s, job) in sheet.jobs().iter().enumerate() {
         put(part, HEADER + SLOT * s, &job_slot(*job));
     }
-    seal(part, HEADER + SLOT * many);
+    seal(part, HEADER + SLOT * count);
 }
 
 // The slots that so many rows left fill in one block: all of them, where there are that many.
