@@ -8,4 +8,5 @@ pub mod check;
 pub mod letters;
 pub mod numbers;
 pub mod put;
+pub mod row;
 pub mod sizes;
