@@ -7,7 +7,8 @@ use Rattle.plant.specs.Reflect.{is_not}
 use Rattle.plant.specs.Number.{Number}
 use Rattle.plant.specs.Lists.{at_most}
 use Rattle.plant.proofs.SafeLaws.{safe_leads, safe_not_late, leads_weakly, largest}
-use Rattle.sheet.specs.Model.{Job, Sheet, Names, Good, State, status, initial, Possible, next, Late, plant}
+use Rattle.sheet.specs.declared.Job.{Job}
+use Rattle.sheet.specs.Model.{Sheet, Names, Good, State, status, initial, Possible, next, Late, plant}
 use Rattle.sheet.specs.ModelTestsRight.{is_busy, is_possible}
 use Rattle.sheet.proofs.Obeys.{tests}
 use Rattle.sheet.proofs.Demand3Laws.{lives}

@@ -3,7 +3,8 @@ use Rattle.std.specs.Prelude.{ℕ, ◌+◌, ◌^◌, ◌≤◌, ◌<◌, ◌≡�
 use Rattle.plant.specs.Plant.{tick, start}
 use Rattle.plant.specs.Range.{In}
 use Rattle.plant.specs.Marks.{Has}
-use Rattle.sheet.specs.Model.{Job, Sheet, Names, job, State, status, Possible, Finished, next, Late, state_of}
+use Rattle.sheet.specs.declared.Job.{Job}
+use Rattle.sheet.specs.Model.{Sheet, Names, job, State, status, Possible, Finished, next, Late, state_of}
 use Rattle.sheet.specs.Table.{Entry, at, Ascending}
 
 -- In order --------------------------------------------------------------------------------------------------------------

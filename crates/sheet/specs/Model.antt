@@ -2,16 +2,11 @@
 use Rattle.std.specs.Prelude.{ℕ, zero, suc, ◌+◌, ◌-◌, ◌*◌, ◌/◌, ◌%◌, ◌^◌, ◌≤◌, ◌<◌, ◌≡◌, ◌≢◌, Bool, cond, List, [], ◌∷◌, length, get_or, set, replicate, eqb}
 use Rattle.plant.specs.Plant.{Plant, Event, tick, arrival, start, ending}
 use Rattle.plant.specs.Range.{every, some, greatest}
+use Rattle.sheet.specs.declared.Job.{Job}
 
 -- Sheet ---------------------------------------------------------------------------------------------------------------
 
--- "arrival tick A, fewest ticks B, most ticks W, due ticks D"
-pub record Job : Type 0 where
-  pub arrives : ℕ
-  pub fewest : ℕ
-  pub most : ℕ
-  pub due : ℕ
-
+-- a `Job` is its four numbers, `arrives`, `fewest`, `most` and `due`: "arrival tick A, fewest ticks B, most ticks W, due ticks D"
 abbrev pub Sheet : Type 0
 Sheet = List Job
 

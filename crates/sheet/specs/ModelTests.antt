@@ -2,7 +2,8 @@
 use Rattle.std.specs.Prelude.{ℕ, ◌+◌, Bool, not, ◌&&◌, length, eqb, leb, ltb}
 use Rattle.plant.specs.Plant.{Event, tick, arrival, start, ending}
 use Rattle.plant.specs.Range.{every, some}
-use Rattle.sheet.specs.Model.{Job, Sheet, job, State, status, busy}
+use Rattle.sheet.specs.declared.Job.{Job}
+use Rattle.sheet.specs.Model.{Sheet, job, State, status, busy}
 
 abbrev pub named : Sheet → ℕ → Bool
 named σ i = leb 1 i && leb i (length σ)

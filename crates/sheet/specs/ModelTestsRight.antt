@@ -3,7 +3,8 @@ use Rattle.std.specs.Prelude.{ℕ, suc, ◌+◌, ◌⊎◌, ◌≢◌, ◌≡◌
 use Rattle.std.proofs.Common.{inl, inr}
 use Rattle.plant.specs.Plant.{Event, tick, arrival, start, ending}
 use Rattle.plant.specs.Range.{In}
-use Rattle.sheet.specs.Model.{Job, Sheet, Names, job, GoodJob, Good, State, status, NonePending, Possible, Finished, finished, busy, Late}
+use Rattle.sheet.specs.declared.Job.{Job}
+use Rattle.sheet.specs.Model.{Sheet, Names, job, GoodJob, Good, State, status, NonePending, Possible, Finished, finished, busy, Late}
 use Rattle.plant.specs.Search.{find}
 use Rattle.plant.specs.Reflect.{Is, is_map, is_le, is_eq, is_and, is_and3, is_not, is_dec, stable, is_every, is_some}
 use Rattle.sheet.specs.ModelTests.{named, pending, none_pending, possible, late, good_job, good}

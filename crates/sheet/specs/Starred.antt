@@ -3,7 +3,8 @@ use Rattle.std.specs.Prelude.{ℕ}
 use mathlib.Core.List.{List, [], ◌∷◌}
 use Rattle.plant.specs.Plant.{Live, Safe}
 use Rattle.plant.specs.Number.{Number}
-use Rattle.sheet.specs.Model.{Job, Sheet, Good, initial, plant}
+use Rattle.sheet.specs.declared.Job.{Job}
+use Rattle.sheet.specs.Model.{Sheet, Good, initial, plant}
 use Rattle.sheet.specs.Table.{Entry, Rows}
 
 -- The table ---------------------------------------------------------------------------------------------------------------

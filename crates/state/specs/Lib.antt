@@ -1,5 +1,7 @@
 -- Sheets, states, events and bytes of starts as numbers.
 -- A reader believes these:
+pub mod Refusals
+pub mod Statuses
 pub mod EventByte
 pub mod Bits
 pub mod Clocks

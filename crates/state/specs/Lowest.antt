@@ -1,6 +1,7 @@
 -- The detail of refusal 2: "a job is of bad form", "lowest such job" (01, "Calls, numbers and order").
 use Rattle.std.specs.Prelude.{ℕ, zero, suc, ◌+◌, Bool, not, cond, ◌&&◌, length, eqb, leb}
-use Rattle.sheet.specs.Model.{Job, Sheet, job}
+use Rattle.sheet.specs.declared.Job.{Job}
+use Rattle.sheet.specs.Model.{Sheet, job}
 
 -- the lowest of 1, .., n that passes the test `p`, and 0 where there is none
 unfoldable pub lowest : ℕ → (ℕ → Bool) → ℕ

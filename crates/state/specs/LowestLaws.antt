@@ -1,16 +1,15 @@
 -- What `lowest` finds, and that `lowest_bad` is 0 exactly if the sheet is good. Assumes nothing.
 use Prim.Native.Nat.{ℕ, zero, suc, ◌+◌, ◌-◌, ◌≤◌, ◌<◌}
-use Rattle.std.proofs.Common.{arith, sym, subst}
+use Rattle.std.proofs.Common.{arith, subst}
 use Rattle.std.proofs.Math.Decide.{ℕ_discrete, dec_lt}
-use Rattle.std.specs.Prelude.{◌≡◌, ◌↔◌, Bool, cond, List, [], length, get_or, eqb}
+use Rattle.std.specs.Prelude.{◌≡◌, ◌↔◌, Bool, cond, length, get_or, eqb}
 use Rattle.std.proofs.Math.Bool.{true, false}
 use Rattle.std.proofs.Math.Dec.{eqb-suc-zero}
 use Rattle.plant.specs.Range.{In}
 use Rattle.plant.specs.Reflect.{Is, is_map, is_le, is_and, is_and3, is_not, is_dec, stable}
-use Rattle.sheet.specs.Model.{Job, Sheet, job, GoodJob, Good}
-use Rattle.sheet.specs.Arrays.{job_of, sheet_of}
+use Rattle.sheet.specs.declared.Job.{Job}
+use Rattle.sheet.specs.Model.{Sheet, no_job, job, GoodJob, Good}
 use Rattle.state.specs.Lowest.{lowest, good, lowest_bad}
-use Rattle.sheet.proofs.ArraysLaws.{length_sheet, job_suc}
 
 -- `r` is the lowest of 1, .., n of which `P` holds, or 0 and there is none
 pub record LowestOf (n : ℕ) (P : ℕ → Type 0) (r : ℕ) : Type 0 where
@@ -69,35 +68,29 @@ good_sheet σ a b = (to, from)
     from : Good σ → lowest_bad σ ≡ 0
     from g = lowest_one (is_lowest_bad σ) (all_good g)
 
--- the two answers of a search from the first array on, which are counted from 0
-module _ (jobs : List (List ℕ)) (n : ℕ) (size : length jobs ≡ 8) (few : n ≤ 8) where
-  count : length (sheet_of jobs n) ≡ n
-  count = length_sheet jobs n (omega arith)
-
+-- the two answers of a search from the first job on, where jobs are counted from 0
+module _ (σ : Sheet) where
   abbrev GoodAt : ℕ → Type 0
-  GoodAt k = GoodJob (job_of (get_or jobs k []))
+  GoodAt k = GoodJob (get_or σ k no_job)
 
-  good_at : (i : ℕ) → 1 ≤ i → i ≤ n → GoodAt (i - 1) → GoodJob (job (sheet_of jobs n) i)
-  good_at i a h g = let e : suc (i - 1) ≡ i = omega arith in subst (λ (k : ℕ). GoodJob (job (sheet_of jobs n) k)) e (subst GoodJob (sym (job_suc jobs n (i - 1) (omega arith))) g)
-
-  pub bad_at : (k : ℕ) → k < n → ((i : ℕ) → i < k → GoodAt i) → ¬ (GoodAt k) → k + 1 ≡ lowest_bad (sheet_of jobs n)
-  bad_at k h f b = lowest_one found (is_lowest_bad (sheet_of jobs n))
+  pub bad_at : (k : ℕ) → k < length σ → ((i : ℕ) → i < k → GoodAt i) → ¬ (GoodAt k) → lowest_bad σ ≡ k + 1
+  bad_at k h f b = lowest_one (is_lowest_bad σ) found
     where
-      found : LowestOf (length (sheet_of jobs n)) (λ i. ¬ (GoodJob (job (sheet_of jobs n) i))) (k + 1)
+      found : LowestOf (length σ) (λ i. ¬ (GoodJob (job σ i))) (k + 1)
       found = record {
-        within = omega (arith, count);
-        holds = λ a. let e : suc k ≡ k + 1 = omega arith in subst (λ (m : ℕ). ¬ (GoodJob (job (sheet_of jobs n) m))) e (λ g. b (subst GoodJob (job_suc jobs n k h) g));
-        below = λ i a l m. m (good_at i a (omega arith) (f (i - 1) (omega arith)));
+        within = omega arith;
+        holds = λ a. let e : k + 1 - 1 ≡ k = omega arith in rw e b;
+        below = λ i a l m. m (f (i - 1) (omega arith));
         none = λ e. absurd (omega arith);
       }
 
-  pub none_bad : ((i : ℕ) → i < n → GoodAt i) → 0 ≡ lowest_bad (sheet_of jobs n)
-  none_bad f = lowest_one found (is_lowest_bad (sheet_of jobs n))
+  pub none_bad : ((i : ℕ) → i < length σ → GoodAt i) → lowest_bad σ ≡ 0
+  none_bad f = lowest_one (is_lowest_bad σ) found
     where
-      found : LowestOf (length (sheet_of jobs n)) (λ i. ¬ (GoodJob (job (sheet_of jobs n) i))) 0
+      found : LowestOf (length σ) (λ i. ¬ (GoodJob (job σ i))) 0
       found = record {
         within = omega arith;
         holds = λ a. absurd (omega arith);
         below = λ i a h. absurd (omega arith);
-        none = λ e i h m. m (good_at i h.0 (omega (arith, count)) (f (i - 1) (omega (arith, count))));
+        none = λ e i h m. m (f (i - 1) (omega arith));
       }

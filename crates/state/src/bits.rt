@@ -5,6 +5,9 @@ ghost use Rattle.plant.specs.Marks.{Has};
 ghost use Rattle.plant.specs.Reflect.{Is};
 ghost use Rattle.sheet.specs.Model.{status, state_of};
 ghost use Rattle.state.specs.Bits.{with_start};
+ghost use Rattle.state.specs.Statuses.{number_of};
+
+use crate::status::Status;
 
 // Whether the byte of starts has job k: bit k − 1 stands for it.
 pub fn has(starts: u8, k: u8) -> bool
@@ -23,9 +26,9 @@ pub fn with(starts: u8, k: u8) -> u8
 }
 
 // The status of job k in a state word: bits 2k − 2 and 2k − 1.
-pub fn status_in(word: u32, k: u8) -> u8
+pub fn status_in(word: u32, k: u8) -> Status
     requires { In 8 k }
-    ensures { result ≡ status (state_of word) k }
+    ensures { number_of result ≡ status (state_of word) k }
 {
-    ((word >> (2 * (k - 1))) & 3) as u8
+    Status::in_low_bits(word >> (2 * (k - 1)))
 }

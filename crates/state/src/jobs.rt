@@ -1,104 +1,122 @@
-// The sheet: eight jobs of four numbers, of which the first n are there.
-ghost use Rattle.std.specs.Prelude.{◌≡◌, ◌<◌, ◌≤◌, get_or};
-ghost use Rattle.plant.specs.Reflect.{Is};
-ghost use Rattle.sheet.specs.Model.{GoodJob};
-ghost use Rattle.sheet.specs.Arrays.{job_of, sheet_of, four, arrays};
-ghost use Rattle.state.specs.Lent.{JobsIn};
+// A sheet by value: up to eight jobs, as a call is lent them.
+ghost use Rattle.std.specs.Prelude.{◌≡◌, ◌≤◌, ◌+◌, ◌<◌, get_or, length, MatchOption};
+ghost use Rattle.sheet.specs.Arrays.{job_from, arrays, sheet_of};
+ghost use Rattle.state.specs.Lent.{Lent};
 ghost use Rattle.state.specs.Lowest.{lowest_bad};
+
+use crate::refusal::Refusal;
+use sheet::Job;
+use std::marker::Model;
 
 // How many jobs a sheet has at most.
 pub const JOBS: usize = 8;
 
-// A job's number as a u32, where no sum of two wraps.
-fn wide(x: u16) -> u32
-    ensures { (result ≡ x) × (result ≤ 65535) }
-{
-    x as u32
+// Seen from outside it is the rules' sheet, the list of its jobs; what stands past the last is not seen.
+#[derive(Drop)]
+pub struct JobSheet {
+    jobs: [Job; JOBS],
+    count: usize,
 }
 
-// Whether a job is of good form, in true sums: each rule is tested by itself, and the sum of two numbers of 16 bits fits in 32.
-pub fn job_good(job: [u16; 4]) -> bool
-    ensures { Is result (GoodJob (job_of job)) }
-{
-    if job[1] < 1 {
-        return false;
-    }
-    if job[2] < job[1] {
-        return false;
-    }
-    if job[3] < job[2] {
-        return false;
-    }
-    if 255 < wide(job[0]) + wide(job[3]) {
-        return false;
-    }
-    true
+impl Model for JobSheet {
+    ghost use Rattle.std.specs.Prelude.{◌≤◌};
+    ghost use Rattle.sheet.specs.Model.{Sheet};
+    ghost use Rattle.sheet.specs.Arrays.{sheet_of};
+
+    ghost Value = { Sheet };
+
+    ghost view = { λ s. sheet_of s.jobs s.count };
+
+    ghost invariant = { λ s. s.count ≤ 8 };
 }
 
-// The lowest job of bad form among the first n, counted from 1, or 0: the first that the test refuses, for all before it passed.
-pub fn lowest_bad(jobs: [[u16; 4]; 8], n: usize) -> usize
-    requires { n ≤ 8 }
-    ensures { result ≡ lowest_bad (sheet_of jobs n) }
-{
-    let mut i: usize = 0;
-    while i < n {
-        if !job_good(jobs[i]) {
-            return i + 1;
+impl JobSheet {
+    // The first jobs of an array.
+    pub fn from_jobs(jobs: [Job; JOBS], count: usize) -> JobSheet
+        requires { count ≤ 8 }
+        ensures { result ≡ sheet_of jobs count }
+    {
+        JobSheet { jobs, count }
+    }
+
+    // The sheet of the numbers lent, job after job, where they are one of at most so many jobs, all of good form.
+    pub fn lent(numbers: &[u16], most: usize) -> Result<JobSheet, Refusal>
+        requires { most ≤ 8 }
+        ensures { Lent most numbers.now result }
+    {
+        let count = numbers.len() / 4;
+        if numbers.len() % 4 != 0 || count < 1 || most < count {
+            return Err(Refusal::NoSheet);
         }
-        i += 1;
+        let sheet = JobSheet::from_jobs(jobs_of(numbers), count);
+        match sheet.lowest_bad() {
+            Some(i) => Err(Refusal::BadJob(i as u32)),
+            None => Ok(sheet),
+        }
     }
-    0
+
+    // The jobs, the first of them first.
+    pub fn jobs(&self) -> &[Job]
+        ensures same { result.now ≡ self.now }
+        ensures few { length self.now ≤ 8 }
+    {
+        &self.jobs[..self.count]
+    }
+
+    // How many they are.
+    pub fn count(&self) -> usize
+        ensures same { result ≡ length self.now }
+        ensures few { result ≤ 8 }
+    {
+        self.jobs().len()
+    }
+
+    // The lowest job of bad form, counted from 1: the first that the test refuses, for all before it passed.
+    pub fn lowest_bad(&self) -> Option<usize>
+        ensures { MatchOption result (lowest_bad self.now ≡ 0) (λ i. (lowest_bad self.now ≡ i) × (1 ≤ i)) }
+    {
+        for (i, job) in self.jobs().iter().enumerate() {
+            if !job.is_good() {
+                return Some(i + 1);
+            }
+        }
+        None
+    }
 }
 
-// The number at place i, 0 past the end.
+// The number at a place, 0 past the end.
 fn number(numbers: &[u16], i: usize) -> u16
     ensures { result ≡ get_or numbers.now i 0 }
 {
-    if i < numbers.len() {
-        return numbers[i];
-    }
-    0
+    numbers.get(i).copied().unwrap_or(0)
 }
 
-// The four numbers from place i on.
-fn job_from(numbers: &[u16], i: usize) -> [u16; 4]
+// The job of the four numbers from a place on.
+fn job_from(numbers: &[u16], i: usize) -> Job
     requires { i < 32 }
-    ensures { result ≡ four numbers.now i }
+    ensures { result ≡ job_from numbers.now i }
 {
-    let arrives = number(numbers, i);
-    let fewest = number(numbers, i + 1);
-    let most = number(numbers, i + 2);
-    let due = number(numbers, i + 3);
-    [arrives, fewest, most, due]
+    Job {
+        arrives: number(numbers, i),
+        fewest: number(numbers, i + 1),
+        most: number(numbers, i + 2),
+        due: number(numbers, i + 3),
+    }
 }
 
-// The jobs of a sheet of so many numbers, or 0 where they are no sheet of at most so many jobs.
-pub fn jobs_in(numbers: usize, most: usize) -> usize
-    ensures { JobsIn most numbers result }
-{
-    if numbers % 4 != 0 {
-        return 0;
-    }
-    if numbers < 4 {
-        return 0;
-    }
-    if most < numbers / 4 {
-        return 0;
-    }
-    numbers / 4
-}
-
-// The sheet of the numbers lent, job after job, with zeros past the last.
-pub fn sheet_of(numbers: &[u16]) -> [[u16; 4]; 8]
+// Eight jobs, with zeros past the last number.
+fn jobs_of(numbers: &[u16]) -> [Job; JOBS]
     ensures { result ≡ arrays numbers.now }
 {
-    let job1 = job_from(numbers, 0);
-    let job2 = job_from(numbers, 4);
-    let job3 = job_from(numbers, 8);
-    let job4 = job_from(numbers, 12);
-    let job5 = job_from(numbers, 16);
-    let job6 = job_from(numbers, 20);
-    let job7 = job_from(numbers, 24);
-    let job8 = job_from(numbers, 28);
-    [job1, job2, job3, job4, job5, job6, job7, job8]
+    let none = Job {
+        arrives: 0,
+        fewest: 0,
+        most: 0,
+        due: 0,
+    };
+    let mut jobs = [none; JOBS];
+    for (i, job) in jobs.iter_mut().enumerate() {
+        *job = job_from(numbers, 4 * i);
+    }
+    jobs
 }
