@@ -31,7 +31,11 @@ module _ {A : Type 0} where
   take_is_tab (suc n) [] d h = absurd (omega arith)
   take_is_tab (suc n) (x ∷ l) d h = ap (λ (r : List A). x ∷ r) (take_is_tab n l d (omega arith))
 
-  take_tab : (n m : ℕ) (f : ℕ → A) → n ≤ m → take n (tab m f) ≡ tab n f
+  -- a list is that of its places
+  pub is_tab : (l : List A) (d : A) → l ≡ tab (length l) (λ i. get_or l i d)
+  is_tab l d = sym (take_all (length l) l (omega arith)) ∙ take_is_tab (length l) l d (omega arith)
+
+  pub take_tab : (n m : ℕ) (f : ℕ → A) → n ≤ m → take n (tab m f) ≡ tab n f
   unfolding tab
   take_tab zero m f h = refl
   take_tab (suc n) zero f h = absurd (omega arith)

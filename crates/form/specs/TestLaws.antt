@@ -4,7 +4,7 @@ use Rattle.std.proofs.Common.{arith, sym, ap, subst, inl, inr}
 use mir.Val.{bool_byte}
 use Rattle.plant.specs.Search.{T_or, or_T}
 use Rattle.plant.specs.Reflect.{Is, is_map, is_le, is_eq, is_and, is_not, is_dec, stable}
-use Rattle.sheet.specs.Model.{Job}
+use Rattle.sheet.specs.declared.Job.{Job}
 use Rattle.state.specs.Tell.{tell_no, told_yes, told_no}
 use Rattle.form.specs.RowTest.{JobFits, MarksFit}
 

@@ -2,5 +2,4 @@
 
 #![tactic(auto)]
 
-pub mod block;
 pub mod row;

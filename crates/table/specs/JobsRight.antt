@@ -1,7 +1,8 @@
 -- Block 0 that passes the test opens a reading, and one that opens a reading passes. Assumes nothing.
 use Rattle.std.specs.Prelude.{ℕ, zero, suc, ◌-◌, ◌≤◌, ◌<◌, ◌≡◌, refl, List, [], length, get_or}
 use Rattle.std.proofs.Common.{arith, sym, ap, ◌∙◌, ext_get_or}
-use Rattle.sheet.specs.Model.{Job, no_job}
+use Rattle.sheet.specs.declared.Job.{Job}
+use Rattle.sheet.specs.Model.{no_job}
 use Rattle.sheet.specs.Arrays.{job_of, sheet_of}
 use Rattle.sheet.proofs.ArraysLaws.{length_sheet, job_suc}
 use Rattle.blocks.specs.Sizes.{slot_bytes, most_jobs}

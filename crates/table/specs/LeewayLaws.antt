@@ -5,7 +5,8 @@ use Rattle.std.specs.Int.Signed.{mag}
 use Rattle.std.specs.Int.{w32}
 use Rattle.std.proofs.lemmas.Bool.{lt-leb}
 use Rattle.plant.specs.Reflect.{is_le, is_and, is_true, is_false}
-use Rattle.sheet.specs.Model.{Job, Sheet, Names, job, GoodJob, status, state_of}
+use Rattle.sheet.specs.declared.Job.{Job}
+use Rattle.sheet.specs.Model.{Sheet, Names, job, GoodJob, status, state_of}
 use Rattle.sheet.specs.ModelTests.{named}
 use Rattle.sheet.specs.Table.{Entry}
 use Rattle.table.specs.Reading.{good, Says}

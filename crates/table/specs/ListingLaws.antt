@@ -4,7 +4,8 @@ use Rattle.std.proofs.Common.{arith, sym, ap, subst, ◌∙◌, ext_get_or, get_
 use Rattle.std.proofs.Math.Decide.{dec_lt}
 use Rattle.std.proofs.Math.ListN.{get_or-eq_default}
 use Rattle.std.proofs.lemmas.Bool.{lt-leb}
-use Rattle.sheet.specs.Model.{Job, Sheet, no_job}
+use Rattle.sheet.specs.declared.Job.{Job}
+use Rattle.sheet.specs.Model.{Sheet, no_job}
 use Rattle.sheet.specs.Table.{Entry, at}
 use Rattle.blocks.specs.Sizes.{header_bytes}
 use Rattle.blocks.specs.Bytes.{u16_at, u32_at}

@@ -2,7 +2,8 @@
 use Rattle.std.specs.Prelude.{ℕ, zero, suc, ◌+◌, ◌-◌, ◌*◌, ◌/◌, ◌%◌, ◌≤◌, ◌<◌, ◌≡◌, ◌≢◌, List, length, get_or, drop}
 use Rattle.std.proofs.Common.{arith, sym, ap, subst, ◌∙◌, length-take, length-drop}
 use Rattle.std.proofs.Math.Decide.{dec_lt}
-use Rattle.sheet.specs.Model.{Job, Sheet, Names, job}
+use Rattle.sheet.specs.declared.Job.{Job}
+use Rattle.sheet.specs.Model.{Sheet, Names, job}
 use Rattle.sheet.specs.Table.{Entry, at}
 use Rattle.blocks.specs.Sizes.{block_slots, slot_bytes, most_rows}
 use Rattle.blocks.specs.Bytes.{u32_at}

@@ -1,6 +1,7 @@
 -- What row, listing and leeway reply to what a file says (01, "Calls, numbers and order"). Result fields are 0 on a refusal.
 use Rattle.std.specs.Prelude.{ℕ, zero, suc, ◌-◌, ◌/◌, ◌%◌, ◌≡◌, Bool, false, cond, ◌&&◌, ◌||◌, List, [], ◌∷◌, length, get_or, replicate, eqb, leb, ℤ, pos, ◌+ℤ◌, ◌-ℤ◌}
-use Rattle.sheet.specs.Model.{Job, Sheet, job, status, state_of, no_job}
+use Rattle.sheet.specs.declared.Job.{Job}
+use Rattle.sheet.specs.Model.{Sheet, job, status, state_of, no_job}
 use Rattle.sheet.specs.ModelTests.{named}
 use Rattle.sheet.specs.Table.{Entry, at}
 use Rattle.blocks.specs.Tab.{tab}

@@ -6,7 +6,8 @@ use native.Mathlib.Omega.{arith}
 use borrow.Author.Rules.{rules}
 use mir.Syntax.{w32}
 use mir.ValLaws.{to_z-of_z}
-use Rattle.sheet.specs.Model.{Job, Sheet, Names, job, GoodJob}
+use Rattle.sheet.specs.declared.Job.{Job}
+use Rattle.sheet.specs.Model.{Sheet, Names, job, GoodJob}
 use Rattle.sheet.specs.Table.{Entry}
 use Rattle.blocks.specs.Fields.{slot_at, job_from}
 use Rattle.table.specs.Reading.{total, good, Says}
