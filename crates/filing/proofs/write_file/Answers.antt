@@ -1,5 +1,5 @@
 -- Before each turn the blocks so far stand in front, and the rest is as it was. Assumes nothing.
-use Rattle.std.proofs.Common.{ℕ, ◌+◌, ◌-◌, ◌*◌, ◌≤◌, ◌≡◌, refl, sym, ap, ◌∙◌, arith, rules, List, ◌++◌, length, drop, take, min, length-append, length-drop, length-take}
+use Rattle.std.proofs.Common.{ℕ, ◌+◌, ◌-◌, ◌*◌, ◌≤◌, ◌≡◌, refl, ap, ◌∙◌, arith, List, ◌++◌, length, drop, take, length-append, length-drop, length-take}
 use borrow.Rule.Slice.PartMut.{same_len_mid}
 use Rattle.blocks.specs.Sizes.{block_bytes, block_slots}
 use Rattle.blocks.specs.File.{blocks_of}

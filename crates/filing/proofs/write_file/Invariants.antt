@@ -1,5 +1,5 @@
 -- Before each turn the blocks so far stand in front, and the rest is as it was.
-use Rattle.std.proofs.Common.{◌*◌, ◌≤◌, ◌≡◌, ◌++◌, length, drop}
+use Rattle.std.proofs.Common.{◌*◌, ◌≡◌, ◌++◌, length, drop}
 use Rattle.blocks.specs.Sizes.{block_bytes}
 use Rattle.blocks.specs.File.{written}
 use Rattle.filing.specs.Filing.{entries_at}

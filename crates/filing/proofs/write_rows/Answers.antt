@@ -1,5 +1,5 @@
 -- Before each turn the header and the slots so far stand in front. Assumes nothing.
-use Rattle.std.proofs.Common.{arith, refl, ap, ◌∙◌, List, map}
+use Rattle.std.proofs.Common.{refl, ap, ◌∙◌, List, map}
 use Rattle.sheet.specs.Table.{Entry}
 use Rattle.blocks.specs.File.{block_of, row_slot}
 use Rattle.writer.specs.WriteLaws.{filled_none, filled_more, filled_all}
