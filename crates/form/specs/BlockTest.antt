@@ -3,13 +3,21 @@ use Rattle.std.specs.Prelude.{ℕ, suc, ◌+◌, ◌-◌, ◌≤◌, ◌<◌, �
 use Rattle.sheet.specs.Model.{Sheet, GoodJob}
 use Rattle.sheet.specs.Form.{GoodEntry}
 use Rattle.blocks.specs.Sizes.{body_bytes, block_slots, slot_bytes, most_jobs}
-use Rattle.blocks.specs.Bytes.{u32_at}
-use Rattle.blocks.specs.Fields.{Framed, slot_at, job_from, row_from}
+use Rattle.blocks.specs.Bytes.{u16_at, u32_at}
+use Rattle.blocks.specs.Fields.{Lettered, Framed, slot_at, job_from, row_from}
 use Rattle.blocks.specs.Tab.{tab}
 
 -- zero from a place up to the check
 abbrev pub Zeros : List ℕ → ℕ → Type 0
 Zeros block from = (i : ℕ) → from ≤ i → i < body_bytes → get_or block i 0 ≡ 0
+
+-- the bytes before the slots
+pub record Headed (n used k total : ℕ) (block : List ℕ) : Type 0 where
+  pub letters : Lettered block
+  pub jobs : get_or block 2 0 ≡ n
+  pub slots : get_or block 3 0 ≡ used
+  pub number : u16_at block 4 ≡ k
+  pub count : u16_at block 6 ≡ total
 
 -- block 0: "one slot a job of good form"
 pub record JobsBlock (total : ℕ) (block : List ℕ) : Type 0 where

@@ -1,7 +1,6 @@
 -- What is left above n is 0 exactly if nothing stands there. Assumes nothing.
 use Rattle.std.proofs.Common.{rules, ◌*◌, ◌/◌, ◌^◌, bit_and}
 use Rattle.plant.specs.Reflect.{is_map, is_eq}
-
 use Rattle.form.specs.DigitLaws.{past_none, none_past, clear_from, clear_past}
 use Rattle.form.proofs.row.ends.Goals as goal
 

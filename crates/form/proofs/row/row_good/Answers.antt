@@ -4,7 +4,6 @@ use Rattle.plant.specs.Reflect.{Is}
 use Rattle.sheet.specs.Form.{GoodEntry}
 use Rattle.blocks.specs.Rows.{entry_of}
 use Rattle.state.specs.Tell.{told_yes}
-
 use Rattle.form.specs.RowAnswers.{done_row, jobs_bad, rest_bad, rest_row}
 use Rattle.form.proofs.row.row_good.Goals as goal
 
