@@ -1,26 +1,29 @@
 // The line of a row: the state that its word says, the jobs that may be started and what the clock may do.
-ghost use Rattle.std.specs.Prelude.{map, ◌≤◌, length, take};
+ghost use Rattle.std.specs.Prelude.{map, ◌+◌, ◌≤◌, length, take};
 ghost use Rattle.plant.specs.Range.{In};
 ghost use Rattle.sheet.specs.Model.{state_of};
-ghost use Rattle.state.specs.Clocks.{Known};
+ghost use Rattle.state.specs.Statuses.{number_of};
 ghost use Rattle.blocks.specs.Sizes.{most_jobs};
+ghost use Rattle.blocks.specs.Rows.{entry_of};
 ghost use Rattle.lines.specs.Digits.{digit};
 ghost use Rattle.lines.specs.Lines.{line_bytes, row_line, job_text, jobs_text, or_dash, tick_word};
-ghost use Rattle.lines.specs.Parts.{state_part, marks_part, state_bytes, marks_bytes};
+ghost use Rattle.lines.specs.Parts.{clock_part, state_part, marks_part, clock_bytes, state_bytes, marks_bytes};
 ghost use Rattle.lines.specs.Pages.{HasRoom, Adds};
 
 use crate::page::Page;
+use blocks::row::Row;
 use state::bits::has;
-use state::word::state_of;
+use state::status::Status;
+use state::word::State;
 
 impl Page<'_> {
     // Prints the statuses of the first n jobs, a digit each.
-    fn put_statuses(&mut self, statuses: [u8; 8], n: u8)
-        requires { (n ≤ most_jobs) × (Known statuses × HasRoom self.old n) }
-        ensures { Adds self.old (map digit (take n statuses)) self.new }
+    fn put_statuses(&mut self, statuses: [Status; 8], n: u8)
+        requires { (n ≤ most_jobs) × HasRoom self.old n }
+        ensures { Adds self.old (map digit (take n (map number_of statuses))) self.new }
     {
         for status in &statuses[..usize::from(n)] {
-            self.put_digit(*status);
+            self.put_digit(status.number());
         }
     }
 
@@ -68,16 +71,24 @@ impl Page<'_> {
         }
     }
 
+    // Prints the ticks of a clock and a space behind them.
+    fn put_clock(&mut self, ticks: u8)
+        requires { HasRoom self.old clock_bytes }
+        ensures prints { Adds self.old (clock_part ticks) self.new }
+        ensures few { self.new.end ≤ self.old.end + clock_bytes }
+    {
+        self.put_number(u32::from(ticks));
+        self.put(b" ");
+    }
+
     // Prints now, elapsed and the statuses of a row's state, each with a space behind it.
     fn put_state(&mut self, n: u8, word: u32)
         requires { (n ≤ most_jobs) × HasRoom self.old state_bytes }
         ensures { Adds self.old (state_part n (state_of word)) self.new }
     {
-        let state = state_of(word);
-        self.put_number(u32::from(state.now));
-        self.put(b" ");
-        self.put_number(u32::from(state.elapsed.0));
-        self.put(b" ");
+        let state = State::from(word);
+        self.put_clock(state.now);
+        self.put_clock(state.elapsed.0);
         self.put_statuses(state.statuses, n);
         self.put(b" ");
     }
@@ -94,11 +105,11 @@ impl Page<'_> {
     }
 
     // Prints a row of a table of n jobs: the state that its word says, and its marks.
-    pub fn put_row(&mut self, n: u8, word: u32, starts: u8, tick: u8)
+    pub fn put_row(&mut self, n: u8, row: Row)
         requires { (n ≤ most_jobs) × HasRoom self.old line_bytes }
-        ensures { Adds self.old (row_line n (record { word = word; starts = starts; tick = tick })) self.new }
+        ensures { Adds self.old (row_line n (entry_of row)) self.new }
     {
-        self.put_state(n, word);
-        self.put_marks(n, starts, tick);
+        self.put_state(n, row.word);
+        self.put_marks(n, row.starts, row.tick);
     }
 }
