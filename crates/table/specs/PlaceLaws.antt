@@ -2,14 +2,15 @@
 use Rattle.std.specs.Prelude.{ℕ, zero, suc, ◌+◌, ◌-◌, ◌*◌, ◌/◌, ◌%◌, ◌≤◌, ◌<◌, ◌≡◌, refl, ◌≢◌, List, length, get_or, drop, None}
 use Rattle.std.proofs.Common.{arith, sym, ap, subst, ◌∙◌, length-take, length-drop}
 use Rattle.std.proofs.Math.Decide.{dec_lt}
-use Rattle.sheet.specs.Model.{Sheet}
+use Rattle.sheet.specs.declared.Job.{Job}
+use Rattle.sheet.specs.Model.{Sheet, Names, job}
 use Rattle.sheet.specs.Table.{Entry, at, no_entry}
 use Rattle.blocks.specs.Sizes.{block_bytes, block_slots, slot_bytes, most_rows}
 use Rattle.blocks.specs.Bytes.{u32_at}
-use Rattle.blocks.specs.Fields.{slot_at, row_from}
+use Rattle.blocks.specs.Fields.{slot_at, job_from, row_from}
 use Rattle.blocks.specs.TabLaws.{length_tab, get_or_tab, tab_is}
 use Rattle.table.specs.Reading.{total, block_at, Sized, Reads, good, Says}
-use Rattle.table.specs.ReadingLaws.{at_block, row_at, jobs_count, part, rows_count, row_there}
+use Rattle.table.specs.ReadingLaws.{at_block, in_first, row_at, jobs_count, job_there, part, rows_count, row_there}
 use Rattle.table.specs.Places.{place, rows_in, Ascends, Placed, Finds}
 
 pub climb : (f : ℕ → ℕ) (n : ℕ) → ((i : ℕ) → suc i < n → f i < f (suc i)) → (i j : ℕ) → i < j → j < n → f i < f j
@@ -55,8 +56,21 @@ module _ {file : List ℕ} {σ : Sheet} {rows : List Entry} (s : Says file (good
   pub jobs_number : length σ ≡ get_or file 3 0
   jobs_number = jobs_count s.0 s.1 ∙ at_block file 0 3 (omega arith)
 
+  pub job_placed : (k : ℕ) → Names σ k → job_from file (slot_at (k - 1)) ≡ job σ k
+  job_placed k h =
+      let j = job_there s.0 s.1 (k - 1) (omega arith) in
+      let few = s.1.sheet.few_jobs in
+      let a = sym (in_first file (slot_at (k - 1)) (omega arith)) ∙ ap (λ (x : Job). x.arrives) j in
+      let b = sym (in_first file (slot_at (k - 1) + 2) (omega arith)) ∙ ap (λ (x : Job). x.fewest) j in
+      let c = sym (in_first file (slot_at (k - 1) + 4) (omega arith)) ∙ ap (λ (x : Job). x.most) j in
+      let d = sym (in_first file (slot_at (k - 1) + 6) (omega arith)) ∙ ap (λ (x : Job). x.due) j in
+      λ i. record { arrives = a i; fewest = b i; most = c i; due = d i }
+
   pub row_placed : (i : ℕ) → i < length rows → row_from file (place i) ≡ at rows i
   row_placed = row_lies s.0 s.1
+
+  pub word_placed : (i : ℕ) → i < length rows → u32_at file (place i) ≡ (at rows i).word
+  word_placed = word_lies s.0 s.1
 
   pub places_end : (i : ℕ) → i < length rows → place i + slot_bytes ≤ length file
   places_end = lies_end s.0 s.1

@@ -36,9 +36,12 @@ row_reply w (bad b) = refused 7 b
 row_reply w (good σ rows) = lookup w rows
 
 -- a row, or a refusal, as a reply
-abbrev pub row_answer : Result Row Refusal → RowReply
-row_answer (Ok r) = told (entry_of r)
-row_answer (Err e) = refused (refusal_number e) (refusal_detail e)
+abbrev pub row_reply_of : Result Row Refusal → RowReply
+row_reply_of (Ok r) = told (entry_of r)
+row_reply_of (Err e) = refused (refusal_number e) (refusal_detail e)
+
+abbrev pub IsRowReplyOf : Result Row Refusal → RowReply → Type 0
+IsRowReplyOf answer reply = reply ≡ row_reply_of answer
 
 -- Listing: "7, 8" -----------------------------------------------------------------------------------------------------
 
@@ -74,9 +77,12 @@ listing_reply i (bad b) = unlisted 7 b
 listing_reply i (good σ rows) = cond (leb 1 i && leb i (length rows)) (listed σ rows (at rows (i - 1))) (unlisted 8 0)
 
 -- a listing, or a refusal, as a reply
-abbrev pub listing_answer : Result ListingReply Refusal → ListingReply
-listing_answer (Ok r) = r
-listing_answer (Err e) = unlisted (refusal_number e) (refusal_detail e)
+abbrev pub listing_reply_of : Result ListingReply Refusal → ListingReply
+listing_reply_of (Ok r) = r
+listing_reply_of (Err e) = unlisted (refusal_number e) (refusal_detail e)
+
+abbrev pub IsListingReplyOf : Result ListingReply Refusal → ListingReply → Type 0
+IsListingReplyOf answer reply = reply ≡ listing_reply_of answer
 
 -- Leeway: "7, 9, 8, 12" -----------------------------------------------------------------------------------------------
 
@@ -103,6 +109,9 @@ leeway_reply w k (good σ rows) =
     (no_leeway 9 0)
 
 -- the ticks, or a refusal, as a reply
-abbrev pub leeway_answer : Result ℤ Refusal → LeewayReply
-leeway_answer (Ok t) = record { number = 0; detail = 0; leeway = t }
-leeway_answer (Err e) = no_leeway (refusal_number e) (refusal_detail e)
+abbrev pub leeway_reply_of : Result ℤ Refusal → LeewayReply
+leeway_reply_of (Ok t) = record { number = 0; detail = 0; leeway = t }
+leeway_reply_of (Err e) = no_leeway (refusal_number e) (refusal_detail e)
+
+abbrev pub IsLeewayReplyOf : Result ℤ Refusal → LeewayReply → Type 0
+IsLeewayReplyOf answer reply = reply ≡ leeway_reply_of answer

@@ -4,7 +4,7 @@ ghost use Rattle.plant.specs.Reflect.{Is};
 ghost use Rattle.sheet.specs.Model.{Good};
 ghost use Rattle.state.specs.Statuses.{number_of};
 ghost use Rattle.table.specs.Reading.{good};
-ghost use Rattle.table.specs.Replies.{ticks_left, leeway_answer, leeway_reply};
+ghost use Rattle.table.specs.Replies.{IsLeewayReplyOf, ticks_left, leeway_reply_of, leeway_reply};
 ghost use Rattle.table.specs.Read.{reading};
 
 use crate::judge::{Contents, PAST_ALL, read_for};
@@ -24,7 +24,7 @@ pub struct LeewayReply {
 
 // The reply to C: the ticks, or a refusal's number and detail.
 impl From<Result<i32, Refusal>> for LeewayReply {
-    ghost from_gives = { λ ticks reply. reply ≡ leeway_answer ticks };
+    ghost from_gives = { IsLeewayReplyOf };
 
     fn from(ticks: Result<i32, Refusal>) -> LeewayReply {
         match ticks {
@@ -60,7 +60,7 @@ fn was_started(status: Status) -> bool
 // The leeway of a job in a state, of a sheet of good form and these rows. The job is asked for first, then the row, then the job's status.
 fn leeway_in(contents: &Contents, word: u32, job: u32) -> Result<i32, Refusal>
     requires { Good contents.now.sheet }
-    ensures { leeway_answer result ≡ leeway_reply word job (good contents.now.sheet contents.now.rows) }
+    ensures { leeway_reply_of result ≡ leeway_reply word job (good contents.now.sheet contents.now.rows) }
 {
     let jobs = contents.sheet.jobs();
     if job < 1 || jobs.len() < job as usize {
@@ -77,7 +77,7 @@ fn leeway_in(contents: &Contents, word: u32, job: u32) -> Result<i32, Refusal>
 
 // The same of any bytes: the whole file is read first.
 fn leeway_of(file: &[u8], word: u32, job: u32) -> Result<i32, Refusal>
-    ensures { leeway_answer result ≡ leeway_reply word job (reading file.now) }
+    ensures { leeway_reply_of result ≡ leeway_reply word job (reading file.now) }
 {
     let contents = read_for(file, PAST_ALL)?;
     leeway_in(&contents, word, job)

@@ -4,7 +4,7 @@ ghost use Rattle.blocks.specs.Sizes.{block_bytes, header_bytes};
 ghost use Rattle.blocks.specs.Bytes.{u16_at};
 ghost use Rattle.blocks.specs.Tab.{tab};
 ghost use Rattle.table.specs.Reading.{good, Says};
-ghost use Rattle.table.specs.Replies.{Answers, listing_answer, listing_reply};
+ghost use Rattle.table.specs.Replies.{Answers, IsListingReplyOf, listing_reply_of, listing_reply};
 ghost use Rattle.table.specs.Read.{reading};
 
 use crate::judge::{Contents, PAST_ALL, read_for};
@@ -28,7 +28,7 @@ pub struct ListingReply {
 
 // The reply to C: a listing as it is, or a refusal's number and detail.
 impl From<Result<ListingReply, Refusal>> for ListingReply {
-    ghost from_gives = { λ listed reply. reply ≡ listing_answer listed };
+    ghost from_gives = { IsListingReplyOf };
 
     fn from(listed: Result<ListingReply, Refusal>) -> ListingReply {
         match listed {
@@ -62,7 +62,7 @@ fn numbers_of(file: &[u8]) -> [u16; 32]
 // The row of a number from 1, in a good file that says these jobs and rows.
 fn listing_in(file: &[u8], contents: &Contents, row_number: u32) -> Result<ListingReply, Refusal>
     requires { Says file.now (good contents.now.sheet contents.now.rows) }
-    ensures { Answers file.now (listing_reply row_number) (listing_answer result) }
+    ensures { Answers file.now (listing_reply row_number) (listing_reply_of result) }
 {
     let count = contents.rows.count() as u32;
     if row_number < 1 || count < row_number {
@@ -83,7 +83,7 @@ fn listing_in(file: &[u8], contents: &Contents, row_number: u32) -> Result<Listi
 
 // The same of any bytes: the whole file is read first.
 fn listed(file: &[u8], row_number: u32) -> Result<ListingReply, Refusal>
-    ensures { listing_answer result ≡ listing_reply row_number (reading file.now) }
+    ensures { listing_reply_of result ≡ listing_reply row_number (reading file.now) }
 {
     let contents = read_for(file, PAST_ALL)?;
     listing_in(file, &contents, row_number)

@@ -1,6 +1,6 @@
 // The row of a word.
 ghost use Rattle.std.specs.Prelude.{◌≡◌};
-ghost use Rattle.table.specs.Replies.{row_answer, row_reply};
+ghost use Rattle.table.specs.Replies.{IsRowReplyOf, row_reply_of, row_reply};
 ghost use Rattle.table.specs.Read.{reading};
 ghost use Rattle.table.specs.ReadFor.{AnswersFor};
 
@@ -20,7 +20,7 @@ pub struct RowReply {
 
 // The reply to C: a row's marks, or a refusal's number and detail.
 impl From<Result<Row, Refusal>> for RowReply {
-    ghost from_gives = { λ row reply. reply ≡ row_answer row };
+    ghost from_gives = { IsRowReplyOf };
 
     fn from(row: Result<Row, Refusal>) -> RowReply {
         match row {
@@ -42,7 +42,7 @@ impl From<Result<Row, Refusal>> for RowReply {
 
 // The row with a word, among those of the blocks read for a word.
 fn row_in(file: &[u8], until: u64, word: u32) -> Result<Row, Refusal>
-    ensures { AnswersFor file.now until (row_reply word) (row_answer result) }
+    ensures { AnswersFor file.now until (row_reply word) (row_reply_of result) }
 {
     let rows = read_for(file, until)?.rows;
     match rows.find(word) {
