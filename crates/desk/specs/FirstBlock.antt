@@ -1,7 +1,8 @@
 -- The sheet of a good file as the code reads it off block 0. Assumes nothing.
 use Rattle.std.specs.Prelude.{ℕ, ◌≡◌, List, length, get_or, take}
 use Rattle.std.proofs.Common.{arith, sym, ap, subst, ◌∙◌, ext_get_or}
-use Rattle.sheet.specs.Model.{Job, Sheet, State, no_job}
+use Rattle.sheet.specs.declared.Job.{Job}
+use Rattle.sheet.specs.Model.{Sheet, State, no_job}
 use Rattle.sheet.specs.Table.{Entry}
 use Rattle.sheet.specs.Arrays.{sheet_of}
 use Rattle.look.specs.Look.{look_of}
