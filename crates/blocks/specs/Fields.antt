@@ -1,6 +1,6 @@
 -- The fields of a block as a test reads them (01, "Table file"). `BlockLaws` and `SlotLaws` say that they are the writer's block.
 use Rattle.std.specs.Prelude.{ℕ, ◌+◌, ◌*◌, ◌≤◌, ◌<◌, ◌≡◌, List, length, get_or, take}
-use Rattle.sheet.specs.Model.{Job}
+use Rattle.sheet.specs.declared.Job.{Job}
 use Rattle.sheet.specs.Table.{Entry}
 use Rattle.blocks.specs.Sizes.{block_bytes, body_bytes, header_bytes, slot_bytes, letter_t, letter_b}
 use Rattle.blocks.specs.Bytes.{u16_at, u32_at, check_of}

@@ -1,6 +1,7 @@
 -- The bytes of a table file (01, "Table file"): what the writer writes for a sheet and its rows.
 use Rattle.std.specs.Prelude.{ℕ, zero, suc, ◌+◌, ◌-◌, ◌*◌, ◌/◌, List, [], ◌∷◌, ◌++◌, map, length, take, drop, replicate}
-use Rattle.sheet.specs.Model.{Job, Sheet}
+use Rattle.sheet.specs.declared.Job.{Job}
+use Rattle.sheet.specs.Model.{Sheet}
 use Rattle.sheet.specs.Table.{Entry}
 use Rattle.blocks.specs.Sizes.{body_bytes, block_slots, letter_t, letter_b}
 use Rattle.blocks.specs.Bytes.{le16, le32, check_of}

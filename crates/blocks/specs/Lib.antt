@@ -5,6 +5,7 @@ pub mod Bytes
 pub mod File
 pub mod Tab
 pub mod Fields
+pub mod Rows
 -- What follows:
 pub mod Starred
 pub mod BytesLaws

@@ -1,7 +1,8 @@
 -- Jobs and rows in the slots of a block: found again, and read back. Assumes nothing.
 use Rattle.std.specs.Prelude.{ℕ, zero, suc, ◌+◌, ◌≤◌, ◌<◌, ◌≡◌, refl, List, [], ◌∷◌, ◌++◌, map, length, get_or}
 use Rattle.std.proofs.Common.{arith, sym, subst}
-use Rattle.sheet.specs.Model.{Job, no_job}
+use Rattle.sheet.specs.declared.Job.{Job}
+use Rattle.sheet.specs.Model.{no_job}
 use Rattle.sheet.specs.Table.{Entry, no_entry, at}
 use Rattle.blocks.specs.Sizes.{slot_bytes, block_slots}
 use Rattle.blocks.specs.Bytes.{le16, le32, u32_at, EachByte}

@@ -1,6 +1,6 @@
 -- Lists f 0, .., f (n − 1). Assumes nothing.
 use Prim.Native.Nat.{ℕ, zero, suc, ◌+◌, ◌-◌, ◌≤◌, ◌<◌, min}
-use Rattle.std.proofs.Common.{arith, zero-add, suc-add, sym, ◌∙◌, take_all}
+use Rattle.std.proofs.Common.{arith, zero-add, suc-add, sym, ◌∙◌, take_all, ext_get_or}
 use Rattle.std.proofs.Math.Decide.{dec_lt}
 use Rattle.std.proofs.Math.Nat.{sub-zero, zero-sub, suc-sub-suc}
 use Rattle.std.specs.Prelude.{◌≡◌, length, get_or, take, drop}
@@ -31,7 +31,15 @@ module _ {A : Type 0} where
   take_is_tab (suc n) [] d h = absurd (omega arith)
   take_is_tab (suc n) (x ∷ l) d h = ap (λ (r : List A). x ∷ r) (take_is_tab n l d (omega arith))
 
-  take_tab : (n m : ℕ) (f : ℕ → A) → n ≤ m → take n (tab m f) ≡ tab n f
+  -- a list whose places are these is that list
+  pub tab_is : (l : List A) (n : ℕ) (f : ℕ → A) (d : A) → length l ≡ n → ((i : ℕ) → i < n → get_or l i d ≡ f i) → l ≡ tab n f
+  tab_is l n f d e g = ext_get_or d l (tab n f) (e ∙ sym (length_tab n f)) (λ i h. let k : i < n = omega arith in g i k ∙ sym (get_or_tab n f d i k))
+
+  -- a list is that of its places
+  pub is_tab : (l : List A) (d : A) → l ≡ tab (length l) (λ i. get_or l i d)
+  is_tab l d = sym (take_all (length l) l (omega arith)) ∙ take_is_tab (length l) l d (omega arith)
+
+  pub take_tab : (n m : ℕ) (f : ℕ → A) → n ≤ m → take n (tab m f) ≡ tab n f
   unfolding tab
   take_tab zero m f h = refl
   take_tab (suc n) zero f h = absurd (omega arith)

@@ -3,8 +3,10 @@
 
 #![tactic(auto)]
 
+pub mod block;
 pub mod check;
 pub mod letters;
 pub mod numbers;
 pub mod put;
+pub mod row;
 pub mod sizes;

@@ -7,11 +7,7 @@ pub fn put(out: &mut [u8], at: usize, bytes: &[u8])
     requires { at + length bytes.now ≤ length out.old }
     ensures { out.new ≡ paste out.old at bytes.now (length bytes.now) }
 {
-    let mut i: usize = 0;
-    while i < bytes.len() {
-        out[at + i] = bytes[i];
-        i += 1;
-    }
+    out[at..at + bytes.len()].copy_from_slice(bytes);
 }
 
 // Puts zeros from one place up to another.
@@ -19,9 +15,5 @@ pub fn put_zeros(out: &mut [u8], at: usize, end: usize)
     requires { (at ≤ end) × (end ≤ length out.old) }
     ensures { out.new ≡ paste out.old at (replicate (end - at) 0) (end - at) }
 {
-    let mut p = at;
-    while p < end {
-        out[p] = 0;
-        p += 1;
-    }
+    out[at..end].fill(0);
 }

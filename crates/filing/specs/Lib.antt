@@ -2,5 +2,6 @@
 -- A reader believes this:
 pub mod Filing
 -- What follows:
+pub mod PlaceLaws
 pub mod FilingLaws
 pub mod TellingLaws

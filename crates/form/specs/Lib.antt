@@ -7,4 +7,3 @@ pub mod TestLaws
 pub mod PassLaws
 pub mod RowRight
 pub mod RowAnswers
-pub mod Loops

@@ -1,12 +1,12 @@
 -- The test of a row's form as the code makes it, job after job. `RowRight` says that it is the form (01, "Table file").
-use Rattle.std.specs.Prelude.{ℕ, ◌+◌, ◌≤◌, ◌<◌, ◌≡◌, ◌⊎◌, []}
+use Rattle.std.specs.Prelude.{ℕ, ◌+◌, ◌≤◌, ◌<◌, ◌≡◌, ◌⊎◌, [], Option, None, Some}
 use Rattle.plant.specs.Range.{In}
 use Rattle.plant.specs.Marks.{Has}
 use Rattle.plant.specs.Reflect.{Is}
-use Rattle.sheet.specs.Model.{Job, Sheet, job, State, status}
+use Rattle.sheet.specs.declared.Job.{Job}
+use Rattle.sheet.specs.Model.{Sheet, job, State, status}
 use Rattle.sheet.specs.Form.{Timely}
-use Rattle.form.specs.declared.row.Seen.{Seen}
-use Rattle.form.specs.declared.row.Seen.TheVariants.{Refused, Passed}
+use Rattle.form.specs.declared.row.Passed.{Passed}
 
 -- one job of status `s`: `marked` if its start is, `opens` if the tick code is 1
 pub record JobFits (j : Job) (now elapsed s : ℕ) (marked opens : Type 0) : Type 0 where
@@ -40,10 +40,16 @@ OnePends σ q k = (i : ℕ) × In k i × Pends (job σ i) q.now (status q i)
 abbrev pub OneSpends : Sheet → State → ℕ → Type 0
 OneSpends σ q k = (i : ℕ) × In k i × Spends (job σ i) q.elapsed (status q i)
 
+-- what is told of jobs 1 to k, where all fit
+pub record TellsOf (σ : Sheet) (q : State) (k : ℕ) (p : Passed) : Type 0 where
+  pub running : Is p.running (Runs q k)
+  pub pending : Is p.pending (OnePends σ q k)
+  pub spent : Is p.spent (OneSpends σ q k)
+
 -- what a pass over jobs 1 to k tells
-abbrev pub Tells : Sheet → State → (starts code k : ℕ) → Seen → Type 0
-Tells σ q starts code k Refused = ¬ (JobsFit σ q starts code k)
-Tells σ q starts code k (Passed running pending spent) = JobsFit σ q starts code k × Is running (Runs q k) × Is pending (OnePends σ q k) × Is spent (OneSpends σ q k)
+abbrev pub Tells : Sheet → State → (starts code k : ℕ) → Option Passed → Type 0
+Tells σ q starts code k None = ¬ (JobsFit σ q starts code k)
+Tells σ q starts code k (Some p) = JobsFit σ q starts code k × TellsOf σ q k p
 
 -- nothing past the last job
 pub record Ends (n : ℕ) (q : State) (starts : ℕ) : Type 0 where

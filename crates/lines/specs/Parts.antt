@@ -8,15 +8,22 @@ use Rattle.lines.specs.Lines.{space, line_end, statuses_text, jobs_text, or_dash
 abbrev pub pair_line : List ℕ → ℕ → List ℕ → ℕ → List ℕ
 pair_line first a second b = first ++ (decimal a ++ (second ++ (decimal b ++ (line_end ∷ []))))
 
+-- a clock, with a space behind it
+abbrev pub clock_part : ℕ → List ℕ
+clock_part ticks = decimal ticks ++ (space ∷ [])
+
 -- a row's state, with a space behind each field
 abbrev pub state_part : ℕ → State → List ℕ
-state_part n q = decimal q.now ++ (space ∷ (decimal q.elapsed ++ (space ∷ (statuses_text n q ++ (space ∷ [])))))
+state_part n q = clock_part q.now ++ (clock_part q.elapsed ++ (statuses_text n q ++ (space ∷ [])))
 
 -- a row's marks, and the line's end
 abbrev pub marks_part : ℕ → ℕ → ℕ → List ℕ
 marks_part n starts tick = or_dash (jobs_text n starts) ++ (space ∷ (tick_word tick ++ (line_end ∷ [])))
 
 -- the most bytes of each: two clocks of three digits, eight statuses, three spaces; eight jobs, a space, four letters, the end
+abbrev pub clock_bytes : ℕ
+clock_bytes = 4
+
 abbrev pub state_bytes : ℕ
 state_bytes = 17
 

@@ -23,10 +23,9 @@ use Rattle.maker.specs.declared.MakeReply.{MakeReply}
 use Rattle.table.specs.Reading.{Table, Says, good}
 use Rattle.table.specs.RoundTrip.{table_says}
 use Rattle.lines.specs.Lines.{listing_text, refusal_text}
-use Rattle.text.specs.SheetText.{most_numbers, Spells, Reads}
+use Rattle.text.specs.SheetText.{Spells}
 use Rattle.text.specs.GroupLaws.{flat, flat_length, flat_values}
 use Rattle.lines.specs.Digits.{value}
-use Rattle.text.specs.declared.read.Parsed.{Parsed}
 use Rattle.printing.specs.Prints.{SheetText, bad_job, too_many, impossible, listed}
 
 -- The numbers read ----------------------------------------------------------------------------------------------------
@@ -37,22 +36,6 @@ spelled_length text numbers p =
     let n : length numbers ≡ length (flat p.lines) = ap length (p.values ∙ flat_values p.lines) ∙ length-map (flat p.lines) value in
     let l = flat_length p.lines in
     record { whole = omega (arith, n); some = omega (arith, n, p.some); few = omega (arith, n, p.few) }
-
--- the numbers of a text that is a sheet stand at the front
-pub record Taken (text : List ℕ) (r : Parsed) : Type 0 where
-  pub spells : Spells text (take r.count r.numbers)
-  pub within : r.count ≤ length r.numbers
-
-pub reads_taken : (text : List ℕ) (r : Parsed) → Reads text r → not r.ok ≡ false → Taken text r
-reads_taken text r (inl x) e = subst (Taken text) (sym x.2) (record {
-  spells = subst (Spells text) (sym (take_at x.0 _ (length x.0) refl)) x.1;
-  within = omega (arith, length-append x.0 (replicate (most_numbers - length x.0) 0));
-})
-reads_taken text r (inr x) e = absurd (true≢false (sym (λ i. not (x.1 i).ok) ∙ e))
-
-pub reads_none : (text : List ℕ) (r : Parsed) → Reads text r → not r.ok ≡ true → (numbers : List ℕ) → ¬ (Spells text numbers)
-reads_none text r (inl x) e = absurd (true≢false (sym e ∙ (λ i. not (x.2 i).ok)))
-reads_none text r (inr x) e = x.0
 
 -- What make answered --------------------------------------------------------------------------------------------------
 

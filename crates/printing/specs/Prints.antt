@@ -11,6 +11,8 @@ use Rattle.state.specs.Lent.{lent}
 use Rattle.lines.specs.Lines.{line_bytes, listing_text, refusal_text}
 use Rattle.text.specs.SheetText.{Spells}
 use Rattle.lines.specs.Printed.{Printed}
+use Rattle.lines.specs.Pages.{Adds}
+use Rattle.lines.specs.declared.page.Page.{Page}
 
 -- what is printed for a sheet's numbers: the listing of its table, or refusal 2, 4 or 5
 pub data SheetText (numbers printed : List ℕ) : Type 0 where
@@ -31,9 +33,13 @@ Prints text printed =
 abbrev pub most_printed : ℕ
 most_printed = line_bytes * suc most_rows
 
--- it stands at the front of the output, and the rest is as before
-abbrev pub SheetPrinted : (numbers out₀ : List ℕ) (r : ℕ) (out : List ℕ) → Type 0
-SheetPrinted numbers out₀ r out = (printed : List ℕ) × SheetText numbers printed × Printed out₀ 0 printed r out
+-- it stands behind what a page held
+abbrev pub SheetPrintsOn : (numbers : List ℕ) (before after : Page) → Type 0
+SheetPrintsOn numbers before after = (printed : List ℕ) × SheetText numbers printed × Adds before printed after
 
+abbrev pub PrintsOn : (text : List ℕ) (before after : Page) → Type 0
+PrintsOn text before after = (printed : List ℕ) × Prints text printed × Adds before printed after
+
+-- it stands at the front of the output, and the rest is as before
 abbrev pub TextPrinted : (text out₀ : List ℕ) (r : ℕ) (out : List ℕ) → Type 0
 TextPrinted text out₀ r out = (printed : List ℕ) × Prints text printed × Printed out₀ 0 printed r out

@@ -5,12 +5,13 @@
 
 ghost use Rattle.std.specs.Prelude.{◌≤◌, length};
 ghost use Rattle.maker.specs.Making.{SheetLength};
-ghost use Rattle.printing.specs.Prints.{most_printed, SheetPrinted, TextPrinted};
+ghost use Rattle.lines.specs.Pages.{HasRoom};
+ghost use Rattle.printing.specs.Prints.{most_printed, SheetPrintsOn, PrintsOn, TextPrinted};
 
 pub mod listing;
 
 use crate::listing::put_listing;
-use lines::put_refusal;
+use lines::page::Page;
 use maker::make;
 use text::read::parse;
 
@@ -24,31 +25,38 @@ pub const MOST_PRINTED: usize = 244125;
 const FILE: usize = 65536;
 
 // Prints the table of a sheet's numbers, or why there is none. The buffers are as long as make can ask for.
-fn put_sheet(out: &mut [u8], numbers: &[u16]) -> usize
-    requires { SheetLength numbers.now × (most_printed ≤ length out.old) }
-    ensures { SheetPrinted numbers.now out.old result out.new }
+fn put_sheet(page: &mut Page<'_>, numbers: &[u16])
+    requires { SheetLength numbers.now × HasRoom page.old most_printed }
+    ensures { SheetPrintsOn numbers.now page.old page.new }
 {
     let mut work = [0u32; places::WORK];
     let mut file = [0u8; FILE];
     let reply = make(numbers, &mut work, &mut file);
-    let number = reply.number;
-    if number != 0 {
-        return put_refusal(out, 0, number, reply.detail);
+    if reply.number != 0 {
+        page.put_refusal(reply.number, reply.detail);
+        return;
     }
     let length = reply.length as usize;
-    put_listing(out, &file[..length])
+    put_listing(page, &file[..length]);
 }
 
-// Prints what the program prints for a text, of any bytes, and answers how many bytes that is.
+// Prints what the program prints for a text, of any bytes.
+fn put_text(page: &mut Page<'_>, text: &[u8])
+    requires { HasRoom page.old most_printed }
+    ensures { PrintsOn text.now page.old page.new }
+{
+    match parse(text) {
+        Some(numbers) => put_sheet(page, numbers.as_slice()),
+        None => page.put_refusal(1, 0),
+    }
+}
+
+// Prints it at the front of a slice, and answers how many bytes it is.
 pub fn print(out: &mut [u8], text: &[u8]) -> usize
     requires { most_printed ≤ length out.old }
     ensures { TextPrinted text.now out.old result out.new }
 {
-    let parsed = parse(text);
-    if !parsed.ok {
-        return put_refusal(out, 0, 1, 0);
-    }
-    let count = parsed.count;
-    let numbers = parsed.numbers;
-    put_sheet(out, &numbers[..count])
+    let mut page = Page::new(out);
+    put_text(&mut page, text);
+    page.end()
 }

@@ -7,47 +7,46 @@ ghost use Rattle.blocks.specs.Fields.{row_from};
 ghost use Rattle.table.specs.Reading.{Says, good};
 ghost use Rattle.table.specs.Places.{place, GoodFile};
 ghost use Rattle.lines.specs.Lines.{line_bytes, row_line, listing_text};
-ghost use Rattle.lines.specs.Printed.{Printed};
+ghost use Rattle.lines.specs.Pages.{HasRoom, Adds};
 ghost use Rattle.printing.specs.Prints.{most_printed};
 ghost use Rattle.printing.specs.RowLines.{lines_of};
 
 use blocks::numbers::read32;
-use lines::{put_header, put_row};
+use lines::page::Page;
 use table::place::{count_rows, place_of};
 
 // Prints row i, counted from 0, of a file with n jobs.
-fn put_row_at(out: &mut [u8], at: usize, file: &[u8], n: u8, i: usize) -> usize
-    requires n_le_most_jobs { (n ≤ most_jobs) × (at + line_bytes ≤ length out.old) }
-    requires i_lt_most_rows { (i < most_rows) × (place i + slot_bytes ≤ length file.now) }
-    ensures { Printed out.old at (row_line n (row_from file.now (place i))) result out.new × (result ≤ at + line_bytes) }
+fn put_row_at(page: &mut Page<'_>, file: &[u8], n: u8, i: usize)
+    requires jobs { n ≤ most_jobs }
+    requires room { HasRoom page.old line_bytes }
+    requires row { (i < most_rows) × (place i + slot_bytes ≤ length file.now) }
+    ensures prints { Adds page.old (row_line n (row_from file.now (place i))) page.new }
+    ensures one_line { page.new.end ≤ page.old.end + line_bytes }
 {
     let p = place_of(i);
-    let word = read32(file, p);
-    put_row(out, at, n, word, file[p + 4], file[p + 5])
+    page.put_row(n, read32(file, p), file[p + 4], file[p + 5]);
 }
 
 // Prints so many rows of a file, from the first on.
-fn put_rows(out: &mut [u8], at: usize, file: &[u8], n: u8, count: usize) -> usize
-    requires n_le_most_jobs { (n ≤ most_jobs) × ((count ≤ most_rows) × (at + line_bytes * count ≤ length out.old)) }
-    requires by_index { (i : ℕ) → i < count → place i + slot_bytes ≤ length file.now }
-    ensures { Printed out.old at (lines_of n file.now count) result out.new }
+fn put_rows(page: &mut Page<'_>, file: &[u8], n: u8, count: usize)
+    requires jobs { n ≤ most_jobs }
+    requires room { HasRoom page.old (line_bytes * count) }
+    requires few { count ≤ most_rows }
+    requires rows { (i : ℕ) → i < count → place i + slot_bytes ≤ length file.now }
+    ensures { Adds page.old (lines_of n file.now count) page.new }
 {
-    let mut next = at;
-    let mut i: usize = 0;
-    while i < count {
-        next = put_row_at(out, next, file, n, i);
-        i += 1;
+    for i in 0..count {
+        put_row_at(page, file, n, i);
     }
-    next
 }
 
-// Prints the table of a good file at the front: its jobs and rows are counted by the file's own bytes.
-pub fn put_listing(out: &mut [u8], file: &[u8]) -> usize
-    requires { GoodFile file.now × (most_printed ≤ length out.old) }
-    ensures { (σ : Sheet) (rows : List Entry) → Says file.now (good σ rows) → Printed out.old 0 (listing_text (length σ) rows) result out.new }
+// Prints the table of a good file: its jobs and rows are counted by the file's own bytes.
+pub fn put_listing(page: &mut Page<'_>, file: &[u8])
+    requires { GoodFile file.now × HasRoom page.old most_printed }
+    ensures { (σ : Sheet) (rows : List Entry) → Says file.now (good σ rows) → Adds page.old (listing_text (length σ) rows) page.new }
 {
     let n = file[3];
     let count = count_rows(file);
-    let next = put_header(out, 0, n, count as u32);
-    put_rows(out, next, file, n, count)
+    page.put_header(n, count as u32);
+    put_rows(page, file, n, count);
 }

@@ -10,5 +10,5 @@ use table::row::{RowReply, row_read};
 pub fn row_quick(file: &[u8], word: u32) -> RowReply
     ensures { Quick file.now word result }
 {
-    row_read(file, word as u64, word)
+    row_read(file, u64::from(word), word)
 }

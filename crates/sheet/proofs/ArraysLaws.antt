@@ -1,5 +1,5 @@
 -- The first jobs of a list as a sheet: how many it has, and which. Assumes nothing.
-use Rattle.std.specs.Prelude.{ℕ, suc, ◌-◌, ◌≤◌, ◌<◌, ◌≡◌, List, length, get_or, take}
+use Rattle.std.specs.Prelude.{ℕ, suc, ◌-◌, ◌≤◌, ◌<◌, ◌≡◌, List, length, get_or}
 use Rattle.std.proofs.Common.{arith, ap, ◌∙◌, length-take, get_or-take}
 use Rattle.plant.specs.Range.{In}
 use Rattle.sheet.specs.declared.Job.{Job}

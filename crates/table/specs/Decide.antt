@@ -5,7 +5,8 @@ use Rattle.std.proofs.Math.Decide.{dec_lt, dec_le, ℕ_discrete}
 use Rattle.std.proofs.Math.ListN.{get_or-eq_default}
 use Rattle.plant.specs.Plant.{tick, start}
 use Rattle.plant.specs.Reflect.{is_dec}
-use Rattle.sheet.specs.Model.{Job, Sheet, Names, job, State, status, Possible, next, digits, state_of}
+use Rattle.sheet.specs.declared.Job.{Job}
+use Rattle.sheet.specs.Model.{Sheet, Names, job, State, status, Possible, next, digits, state_of}
 use Rattle.sheet.specs.ModelTestsRight.{is_good_job, is_possible, is_late, dec_finished}
 use Rattle.sheet.specs.Table.{Entry}
 use Rattle.sheet.specs.Form.{Timely, UnderWay, InOrder, Fits, GoodEntry}

@@ -1,46 +1,18 @@
 -- Block 0 that passes the test opens a reading, and one that opens a reading passes. Assumes nothing.
 use Rattle.std.specs.Prelude.{ℕ, zero, suc, ◌-◌, ◌≤◌, ◌<◌, ◌≡◌, refl, List, [], length, get_or}
-use Rattle.std.proofs.Common.{arith, sym, ap, ◌∙◌, ext_get_or}
-use Rattle.sheet.specs.Model.{Job, no_job}
-use Rattle.sheet.specs.Arrays.{job_of, sheet_of}
-use Rattle.sheet.proofs.ArraysLaws.{length_sheet, job_suc}
-use Rattle.blocks.specs.Sizes.{slot_bytes, most_jobs}
+use Rattle.std.proofs.Common.{arith}
+use Rattle.sheet.specs.Model.{no_job}
+use Rattle.blocks.specs.Sizes.{slot_bytes}
 use Rattle.blocks.specs.Bytes.{EachByte}
 use Rattle.blocks.specs.File.{job_slot, block_for}
 use Rattle.blocks.specs.Fields.{slot_at, job_from}
-use Rattle.blocks.specs.Tab.{tab}
 use Rattle.blocks.specs.TabLaws.{length_tab, get_or_tab}
 use Rattle.blocks.specs.BlockLaws.{framed}
 use Rattle.blocks.specs.SlotLaws.{jobs_made}
-use Rattle.form.specs.BlockTest.{JobsBlock, four_at, fours}
+use Rattle.form.specs.BlockTest.{JobsBlock, jobs_in}
 use Rattle.table.specs.Reading.{total, block_at, Sized, Reads, GoodTo}
 use Rattle.table.specs.ReadingLaws.{jobs_count, job_there}
 use Rattle.table.specs.BlockRight.{small_block}
-
--- the jobs of block 0
-abbrev pub jobs_in : List ℕ → List Job
-jobs_in block = tab (get_or block 3 0) (λ s. job_from block (slot_at s))
-
-pub sheet_in : (block : List ℕ) (n : ℕ) → n ≤ most_jobs → sheet_of (fours block) n ≡ tab n (λ s. job_from block (slot_at s))
-unfolding fours
-sheet_in block n h =
-    ext_get_or no_job (sheet_of js n) (tab n found) (few ∙ sym (length_tab n found))
-    (λ i l.
-    let e : suc i - 1 ≡ i = omega arith in
-    let k : i < n = omega (arith, few) in
-    (rw e at (job_suc js n i k)) ∙ (ap job_of (get_or_tab most_jobs each [] i (omega arith)) ∙ sym (get_or_tab n found no_job i k)))
-  where
-    each : ℕ → List ℕ
-    each s = four_at block (slot_at s)
-
-    js : List (List ℕ)
-    js = tab most_jobs each
-
-    found : ℕ → Job
-    found s = job_from block (slot_at s)
-
-    few : length (sheet_of js n) ≡ n
-    few = length_sheet js n (omega (arith, length_tab most_jobs each))
 
 -- a block that passes opens a reading
 pub jobs_open : (file : List ℕ) → Sized file → EachByte file → JobsBlock (total file) (block_at file 0) → Reads file 0 (jobs_in (block_at file 0)) []

@@ -1,17 +1,17 @@
 -- The leeway as a whole number: its steps, its range with both ends met, and what leeway replies. Assumes nothing.
-use Rattle.std.specs.Prelude.{ℕ, zero, suc, ◌+◌, ◌-◌, ◌≤◌, ◌<◌, ◌≡◌, refl, Bool, true, false, cond, ◌||◌, List, [], ◌∷◌, eqb, ltb, ℤ, pos, negsuc, ◌-ℤ◌, length, ◌≤ℤ◌}
+use Rattle.std.specs.Prelude.{ℕ, zero, suc, ◌+◌, ◌-◌, ◌≤◌, ◌<◌, ◌≡◌, refl, Bool, true, false, cond, ◌||◌, List, [], ◌∷◌, eqb, ltb, ℤ, pos, negsuc, ◌-ℤ◌, length, ◌≤ℤ◌, None, Some}
 use Rattle.std.proofs.Common.{arith, ap, le→leb, SFits, le-ltb, le-leb, eq-eqb, ne_eqb}
 use Rattle.std.specs.Int.Signed.{mag}
 use Rattle.std.specs.Int.{w32}
 use Rattle.std.proofs.lemmas.Bool.{lt-leb}
 use Rattle.plant.specs.Reflect.{is_le, is_and, is_true, is_false}
-use Rattle.sheet.specs.Model.{Job, Sheet, Names, job, GoodJob, status, state_of}
+use Rattle.sheet.specs.declared.Job.{Job}
+use Rattle.sheet.specs.Model.{Sheet, Names, job, GoodJob, status, state_of}
 use Rattle.sheet.specs.ModelTests.{named}
 use Rattle.sheet.specs.Table.{Entry}
-use Rattle.table.specs.Reading.{good, Says}
+use Rattle.table.specs.Reading.{good}
 use Rattle.table.specs.Places.{Finds}
-use Rattle.table.specs.Replies.{Answers, ticks_left, is_row, no_leeway, leeway_reply}
-use Rattle.table.specs.declared.place.Found.TheVariants.{Nowhere, At}
+use Rattle.table.specs.Replies.{ticks_left, is_row, no_leeway, leeway_reply}
 
 pub sub_nonneg : (m n : ℕ) → n ≤ m → pos m -ℤ pos n ≡ pos (m - n)
 sub_nonneg m zero h = ap pos (omega arith)
@@ -59,12 +59,12 @@ even = refl
 
 -- The reply ------------------------------------------------------------------------------------------------------------
 
-no_row : (w : ℕ) (rows : List Entry) → Finds rows w Nowhere → is_row w rows ≡ false
+no_row : (w : ℕ) (rows : List Entry) → Finds rows w None → is_row w rows ≡ false
 unfolding is_row
 no_row w [] f = refl
 no_row w (e ∷ rows) f = rw (ne_eqb e.word w (f 0 (omega arith))) (no_row w rows (λ i h. f (suc i) (omega arith)))
 
-some_row : (w : ℕ) (rows : List Entry) (i : ℕ) → Finds rows w (At i) → is_row w rows ≡ true
+some_row : (w : ℕ) (rows : List Entry) (i : ℕ) → Finds rows w (Some i) → is_row w rows ≡ true
 unfolding is_row
 some_row w [] i f = absurd (omega (arith, f.0))
 some_row w (e ∷ rows) zero f = rw (eq-eqb e.word w f.1) refl
@@ -77,20 +77,20 @@ some_row w (e ∷ rows) (suc i) f = rw (some_row w rows i (omega (arith, f.0), f
         go true = refl
         go false = refl
 
-module _ {file : List ℕ} {σ : Sheet} {rows : List Entry} (s : Says file (good σ rows)) (w k : ℕ) where
+module _ (σ : Sheet) (rows : List Entry) (w k : ℕ) where
   yes_named : Names σ k → named σ k ≡ true
   yes_named h = is_true (is_and (is_le 1 k) (is_le k (length σ))) (h.0, h.1)
 
-  pub leeway_nine : ¬ (Names σ k) → Answers file (leeway_reply w k) (no_leeway 9 0)
-  leeway_nine n = (good σ rows, s, rw (is_false (is_and (is_le 1 k) (is_le k (length σ))) n) refl)
+  pub leeway_nine : ¬ (Names σ k) → no_leeway 9 0 ≡ leeway_reply w k (good σ rows)
+  leeway_nine n = rw (is_false (is_and (is_le 1 k) (is_le k (length σ))) n) refl
 
-  pub leeway_eight : Names σ k → Finds rows w Nowhere → Answers file (leeway_reply w k) (no_leeway 8 0)
-  leeway_eight h f = (good σ rows, s, rw (yes_named h, no_row w rows f) refl)
+  pub leeway_eight : Names σ k → Finds rows w None → no_leeway 8 0 ≡ leeway_reply w k (good σ rows)
+  leeway_eight h f = rw (yes_named h, no_row w rows f) refl
 
-  module _ (h : Names σ k) (i : ℕ) (f : Finds rows w (At i)) where
-    pub leeway_twelve : 2 ≤ status (state_of w) k → Answers file (leeway_reply w k) (no_leeway 12 0)
-    leeway_twelve l = (good σ rows, s, rw (yes_named h, some_row w rows i f, le-leb 2 (status (state_of w) k) l) refl)
+  module _ (h : Names σ k) (i : ℕ) (f : Finds rows w (Some i)) where
+    pub leeway_twelve : 2 ≤ status (state_of w) k → no_leeway 12 0 ≡ leeway_reply w k (good σ rows)
+    leeway_twelve l = rw (yes_named h, some_row w rows i f, le-leb 2 (status (state_of w) k) l) refl
 
     pub leeway_told : status (state_of w) k < 2 → (t : ℤ) → t ≡ ticks_left (job σ k).arrives (job σ k).due (job σ k).most (state_of w).now
-        → Answers file (leeway_reply w k) (record { number = 0; detail = 0; leeway = t })
-    leeway_told l t e = (good σ rows, s, rw (yes_named h, some_row w rows i f, lt-leb 2 (status (state_of w) k) l, e) refl)
+        → record { number = 0; detail = 0; leeway = t } ≡ leeway_reply w k (good σ rows)
+    leeway_told l t e = rw (yes_named h, some_row w rows i f, lt-leb 2 (status (state_of w) k) l, e) refl

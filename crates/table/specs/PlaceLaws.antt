@@ -1,16 +1,17 @@
 -- Rows found in their places. Assumes nothing.
-use Rattle.std.specs.Prelude.{ℕ, zero, suc, ◌+◌, ◌-◌, ◌*◌, ◌/◌, ◌%◌, ◌≤◌, ◌<◌, ◌≡◌, ◌≢◌, List, length, get_or, drop}
+use Rattle.std.specs.Prelude.{ℕ, zero, suc, ◌+◌, ◌-◌, ◌*◌, ◌/◌, ◌%◌, ◌≤◌, ◌<◌, ◌≡◌, refl, ◌≢◌, List, length, get_or, drop, None}
 use Rattle.std.proofs.Common.{arith, sym, ap, subst, ◌∙◌, length-take, length-drop}
 use Rattle.std.proofs.Math.Decide.{dec_lt}
-use Rattle.sheet.specs.Model.{Job, Sheet, Names, job}
-use Rattle.sheet.specs.Table.{Entry, at}
-use Rattle.blocks.specs.Sizes.{block_slots, slot_bytes, most_rows}
+use Rattle.sheet.specs.declared.Job.{Job}
+use Rattle.sheet.specs.Model.{Sheet, Names, job}
+use Rattle.sheet.specs.Table.{Entry, at, no_entry}
+use Rattle.blocks.specs.Sizes.{block_bytes, block_slots, slot_bytes, most_rows}
 use Rattle.blocks.specs.Bytes.{u32_at}
 use Rattle.blocks.specs.Fields.{slot_at, job_from, row_from}
+use Rattle.blocks.specs.TabLaws.{length_tab, get_or_tab, tab_is}
 use Rattle.table.specs.Reading.{total, block_at, Sized, Reads, good, Says}
 use Rattle.table.specs.ReadingLaws.{at_block, in_first, row_at, jobs_count, job_there, part, rows_count, row_there}
-use Rattle.table.specs.Places.{place, Ascends, Finds}
-use Rattle.table.specs.declared.place.Found.TheVariants.{Nowhere, At}
+use Rattle.table.specs.Places.{place, rows_in, Ascends, Placed, Finds}
 
 pub climb : (f : ℕ → ℕ) (n : ℕ) → ((i : ℕ) → suc i < n → f i < f (suc i)) → (i j : ℕ) → i < j → j < n → f i < f j
 climb f n s i zero h l = absurd (omega arith)
@@ -77,32 +78,63 @@ module _ {file : List ℕ} {σ : Sheet} {rows : List Entry} (s : Says file (good
   pub rows_few : length rows ≤ most_rows
   rows_few = read_few s.0 s.1
 
--- a turn of the search: the asked word is above the middle one, or not
-module _ (file : List ℕ) (n w m : ℕ) (a : Ascends file n) (l : m < n) where
-  pub search_up : u32_at file (place m) < w → (k : ℕ) → k < m + 1 → u32_at file (place k) < w
+-- Rows in their places are these rows -----------------------------------------------------------------------------------
+
+module _ (file : List ℕ) (n : ℕ) where
+  count_in : length (rows_in file n) ≡ n
+  count_in = length_tab n (λ i. row_from file (place i))
+
+  row_in : (i : ℕ) → i < n → at (rows_in file n) i ≡ row_from file (place i)
+  row_in i h = get_or_tab n (λ i. row_from file (place i)) no_entry i h
+
+  -- seen as a list
+  module _ (l : List Entry) (e : rows_in file n ≡ l) where
+    pub count_seen : n ≡ length l
+    count_seen = sym count_in ∙ ap length e
+
+    pub row_seen : (i : ℕ) → i < length l → row_from file (place i) ≡ at l i
+    row_seen i h = sym (row_in i (omega (arith, count_seen))) ∙ ap (λ (x : List Entry). at x i) e
+
+    pub ascend_seen : Ascends file n → (i j : ℕ) → i < j → j < length l → (at l i).word < (at l j).word
+    ascend_seen a i j h k =
+        let p = ap (λ (x : Entry). x.word) (row_seen i (omega arith)) in
+        let q = ap (λ (x : Entry). x.word) (row_seen j k) in
+        omega (arith, p, q, a i j h (omega (arith, count_seen)))
+
+module _ {file : List ℕ} {k : ℕ} {σ : Sheet} {rows : List Entry} (sized : Sized file) (r : Reads file k σ rows) where
+  pub rows_are : rows_in file (length rows) ≡ rows
+  rows_are = sym (tab_is rows (length rows) (λ i. row_from file (place i)) no_entry refl (λ i h. sym (row_lies sized r i h)))
+
+  -- as many as the blocks' own bytes say
+  pub rows_counted : 1 ≤ k → block_slots * (k - 1) + get_or file (block_bytes * k + 3) 0 ≡ length rows
+  rows_counted h = omega (arith, rows_read sized r h, at_block file k 3 (omega arith))
+
+  pub rows_placed : Placed file (length rows)
+  rows_placed = record { few = read_few sized r; inside = lies_end sized r; ascend = lies_ascend sized r }
+
+-- A turn of the search: the asked word is above the middle one, or not --------------------------------------------------
+
+module _ (l : List Entry) (w m : ℕ) (a : (i j : ℕ) → i < j → j < length l → (at l i).word < (at l j).word) (here : m < length l) where
+  pub search_up : (at l m).word < w → (k : ℕ) → k < m + 1 → (at l k).word < w
   search_up h k j = go (dec_lt k m)
     where
-      go : Dec (k < m) → u32_at file (place k) < w
-      go (yes q) = omega (arith, a k m q l)
-      go (no q) = let e : m ≡ k = omega arith in subst (λ (x : ℕ). u32_at file (place x) < w) e h
+      go : Dec (k < m) → (at l k).word < w
+      go (yes q) = omega (arith, a k m q here)
+      go (no q) = let e : m ≡ k = omega arith in subst (λ (x : ℕ). (at l x).word < w) e h
 
-  pub search_down : w ≤ u32_at file (place m) → (k : ℕ) → m ≤ k → k < n → w ≤ u32_at file (place k)
+  pub search_down : w ≤ (at l m).word → (k : ℕ) → m ≤ k → k < length l → w ≤ (at l k).word
   search_down h k i j = go (dec_lt m k)
     where
-      go : Dec (m < k) → w ≤ u32_at file (place k)
+      go : Dec (m < k) → w ≤ (at l k).word
       go (yes q) = omega (arith, a m k q j)
-      go (no q) = let e : m ≡ k = omega arith in subst (λ (x : ℕ). w ≤ u32_at file (place x)) e h
+      go (no q) = let e : m ≡ k = omega arith in subst (λ (x : ℕ). w ≤ (at l x).word) e h
 
 -- the first row that is not below has the word, or none has
-module _ {file : List ℕ} {k : ℕ} {σ : Sheet} {rows : List Entry} (sized : Sized file) (r : Reads file k σ rows) (w p : ℕ) where
-  pub found_none : ((i : ℕ) → i < p → u32_at file (place i) < w) → ((i : ℕ) → p ≤ i → i < length rows → w ≤ u32_at file (place i))
-      → (p < length rows → u32_at file (place p) ≢ w) → Finds rows w Nowhere
-  found_none lo hi ne j h e = other (word_lies sized r j h ∙ e) (dec_lt j p) (dec_lt p j)
-    where
-      other : u32_at file (place j) ≡ w → Dec (j < p) → Dec (p < j) → ⊥
-      other e (yes q) d = omega (arith, lo j q)
-      other e (no q) (yes d) = omega (arith, lies_ascend sized r p j d h, hi p (omega arith) (omega arith))
-      other e (no q) (no d) = let g : j ≡ p = omega arith in ne (omega arith) (ap (λ (x : ℕ). u32_at file (place x)) (sym g) ∙ e)
-
-  pub found_at : p < length rows → u32_at file (place p) ≡ w → Finds rows w (At p)
-  found_at h e = (h, sym (word_lies sized r p h) ∙ e)
+pub found_none : (l : List Entry) (w p : ℕ) → ((i : ℕ) → i < p → (at l i).word < w) → ((i : ℕ) → p ≤ i → i < length l → w ≤ (at l i).word)
+    → (p < length l → (at l p).word ≢ w) → ((i j : ℕ) → i < j → j < length l → (at l i).word < (at l j).word) → Finds l w None
+found_none l w p lo hi ne a j h e = other (dec_lt j p) (dec_lt p j)
+  where
+    other : Dec (j < p) → Dec (p < j) → ⊥
+    other (yes q) d = omega (arith, lo j q)
+    other (no q) (yes d) = omega (arith, a p j d h, hi p (omega arith) (omega arith))
+    other (no q) (no d) = let g : p ≡ j = omega arith in subst (λ (x : ℕ). (at l x).word ≢ w) g (ne (omega arith)) e

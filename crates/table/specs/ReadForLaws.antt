@@ -1,14 +1,11 @@
 -- The blocks read for a word past all others are the whole file. Assumes nothing.
-use Rattle.std.specs.Prelude.{ℕ, ◌-◌, ◌≡◌, List, length, get_or}
-use Rattle.std.proofs.Common.{arith, sym, subst, ◌∙◌, inl, inr}
+use Rattle.std.specs.Prelude.{ℕ, ◌-◌, ◌≡◌, List, length}
+use Rattle.std.proofs.Common.{arith, subst, inl, inr}
 use Rattle.blocks.specs.Bytes.{EachByte}
 use Rattle.table.specs.Reading.{total, Reads, Reading, good, bad, Says}
 use Rattle.table.specs.Read.{reading}
 use Rattle.table.specs.ReadLaws.{answer_is}
 use Rattle.table.specs.ReadFor.{ReadFor, AnswersFor, past_all}
-use Rattle.table.specs.PlaceLaws.{jobs_number}
-use Rattle.table.specs.Judging.{Judged, Counts}
-use Rattle.table.specs.declared.judge.Judgement.TheVariants.{Good}
 
 pub read_whole : (file : List ℕ) (x : Reading) → ReadFor file past_all x → Says file x
 read_whole file (good σ rows) (k, sized, past, r, inl e) = let d : k ≡ total file - 1 = omega arith in (sized, subst (λ (m : ℕ). Reads file m σ rows) d r)
@@ -19,7 +16,3 @@ read_whole file (bad b) (inr v) = inr (v.0, v.1, (λ a h. let g = v.2 a h in (g.
 -- a reply from the whole file is the reply to its reading
 pub whole_answer : {R : Type 0} (file : List ℕ) → EachByte file → (f : Reading → R) (r : R) → AnswersFor file past_all f r → r ≡ f (reading file)
 whole_answer file small f r a = answer_is file small f r (a.0, read_whole file a.0 a.1, a.2)
-
--- the jobs and rows of a file that was read as a whole
-pub whole_counts : (file : List ℕ) (n m : ℕ) → n ≡ get_or file 3 0 → Judged file past_all (Good m) → Counts file n m
-whole_counts file n m e j = let s = read_whole file (good j.0 j.1) j.2 in (j.0, j.1, s, jobs_number s ∙ sym e, j.3)

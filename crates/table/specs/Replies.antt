@@ -1,9 +1,14 @@
 -- What row, listing and leeway reply to what a file says (01, "Calls, numbers and order"). Result fields are 0 on a refusal.
-use Rattle.std.specs.Prelude.{ℕ, zero, suc, ◌-◌, ◌/◌, ◌%◌, ◌≡◌, Bool, false, cond, ◌&&◌, ◌||◌, List, [], ◌∷◌, length, get_or, replicate, eqb, leb, ℤ, pos, ◌+ℤ◌, ◌-ℤ◌}
-use Rattle.sheet.specs.Model.{Job, Sheet, job, status, state_of, no_job}
+use Rattle.std.specs.Prelude.{ℕ, zero, suc, ◌-◌, ◌/◌, ◌%◌, ◌≡◌, Bool, false, cond, ◌&&◌, ◌||◌, List, [], ◌∷◌, length, get_or, replicate, eqb, leb, ℤ, pos, ◌+ℤ◌, ◌-ℤ◌, Result, Ok, Err}
+use Rattle.sheet.specs.declared.Job.{Job}
+use Rattle.sheet.specs.Model.{Sheet, job, status, state_of, no_job}
 use Rattle.sheet.specs.ModelTests.{named}
 use Rattle.sheet.specs.Table.{Entry, at}
 use Rattle.blocks.specs.Tab.{tab}
+use Rattle.state.specs.declared.refusal.Refusal.{Refusal}
+use Rattle.state.specs.Refusals.{refusal_number, refusal_detail}
+use Rattle.blocks.specs.declared.row.Row.{Row}
+use Rattle.blocks.specs.Rows.{entry_of}
 use Rattle.table.specs.Reading.{Reading, good, bad, Says}
 use Rattle.table.specs.declared.row.RowReply.{RowReply}
 use Rattle.table.specs.declared.listing.ListingReply.{ListingReply}
@@ -29,6 +34,14 @@ lookup w (e ∷ l) = cond (eqb e.word w) (told e) (lookup w l)
 abbrev pub row_reply : (word : ℕ) → Reading → RowReply
 row_reply w (bad b) = refused 7 b
 row_reply w (good σ rows) = lookup w rows
+
+-- a row, or a refusal, as a reply
+abbrev pub row_reply_of : Result Row Refusal → RowReply
+row_reply_of (Ok r) = told (entry_of r)
+row_reply_of (Err e) = refused (refusal_number e) (refusal_detail e)
+
+abbrev pub IsRowReplyOf : Result Row Refusal → RowReply → Type 0
+IsRowReplyOf answer reply = reply ≡ row_reply_of answer
 
 -- Listing: "7, 8" -----------------------------------------------------------------------------------------------------
 
@@ -63,6 +76,14 @@ abbrev pub listing_reply : (row_number : ℕ) → Reading → ListingReply
 listing_reply i (bad b) = unlisted 7 b
 listing_reply i (good σ rows) = cond (leb 1 i && leb i (length rows)) (listed σ rows (at rows (i - 1))) (unlisted 8 0)
 
+-- a listing, or a refusal, as a reply
+abbrev pub listing_reply_of : Result ListingReply Refusal → ListingReply
+listing_reply_of (Ok r) = r
+listing_reply_of (Err e) = unlisted (refusal_number e) (refusal_detail e)
+
+abbrev pub IsListingReplyOf : Result ListingReply Refusal → ListingReply → Type 0
+IsListingReplyOf answer reply = reply ≡ listing_reply_of answer
+
 -- Leeway: "7, 9, 8, 12" -----------------------------------------------------------------------------------------------
 
 -- "A + D − W − now"
@@ -86,3 +107,11 @@ leeway_reply w k (good σ rows) =
     cond (named σ k)
     (cond (is_row w rows) (cond (leb 2 (status q k)) (no_leeway 12 0) (record { number = 0; detail = 0; leeway = ticks_left j.arrives j.due j.most q.now })) (no_leeway 8 0))
     (no_leeway 9 0)
+
+-- the ticks, or a refusal, as a reply
+abbrev pub leeway_reply_of : Result ℤ Refusal → LeewayReply
+leeway_reply_of (Ok t) = record { number = 0; detail = 0; leeway = t }
+leeway_reply_of (Err e) = no_leeway (refusal_number e) (refusal_detail e)
+
+abbrev pub IsLeewayReplyOf : Result ℤ Refusal → LeewayReply → Type 0
+IsLeewayReplyOf answer reply = reply ≡ leeway_reply_of answer

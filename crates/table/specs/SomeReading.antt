@@ -4,10 +4,9 @@ use Rattle.std.proofs.Common.{arith}
 use Rattle.std.proofs.Math.Decide.{dec_le, ℕ_discrete}
 use Rattle.blocks.specs.Sizes.{block_bytes}
 use Rattle.blocks.specs.Bytes.{EachByte}
-use Rattle.form.specs.BlockTest.{RowsBlock, JobsBlock}
+use Rattle.form.specs.BlockTest.{RowsBlock, JobsBlock, jobs_in}
 use Rattle.table.specs.Reading.{total, block_at, Sized, Reading, good, bad, Says}
 use Rattle.table.specs.BlockRight.{before}
-use Rattle.table.specs.JobsRight.{jobs_in}
 use Rattle.table.specs.FileRight.{SoFar, sized_of, length_bad, first_bad, first_good, next_bad, next_good, all_good}
 use Rattle.table.specs.Decide.{dec_rows_block, dec_jobs_block}
 

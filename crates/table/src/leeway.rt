@@ -1,14 +1,17 @@
 // How long a job's start can wait: A + D − W − now, below zero where it is too late to be sure.
 ghost use Rattle.std.specs.Prelude.{◌≡◌, ◌≤◌, ◌+◌};
-ghost use Rattle.table.specs.Judging.{Counts};
-ghost use Rattle.table.specs.Replies.{Answers, ticks_left, no_leeway, leeway_reply};
+ghost use Rattle.plant.specs.Reflect.{Is};
+ghost use Rattle.sheet.specs.Model.{Good};
+ghost use Rattle.state.specs.Statuses.{number_of};
+ghost use Rattle.table.specs.Reading.{good};
+ghost use Rattle.table.specs.Replies.{IsLeewayReplyOf, ticks_left, leeway_reply_of, leeway_reply};
 ghost use Rattle.table.specs.Read.{reading};
 
-use crate::judge::{Judgement, PAST_ALL, read_for};
-use crate::place::{Found, find};
-use blocks::numbers::read16;
-use blocks::sizes::{HEADER, SLOT};
+use crate::judge::{Contents, PAST_ALL, read_for};
+use sheet::Job;
 use state::bits::status_in;
+use state::refusal::Refusal;
+use state::status::Status;
 
 // A leeway's answer: number and detail, and on 0 the ticks.
 #[repr(C)]
@@ -19,60 +22,70 @@ pub struct LeewayReply {
     pub leeway: i32,
 }
 
-// A refusal: nothing but its number and detail.
-fn refusal(number: u32, detail: u32) -> LeewayReply
-    ensures { result ≡ no_leeway number detail }
-{
-    LeewayReply {
-        number: number,
-        detail: detail,
-        leeway: 0,
+// The reply to C: the ticks, or a refusal's number and detail.
+impl From<Result<i32, Refusal>> for LeewayReply {
+    ghost from_gives = { IsLeewayReplyOf };
+
+    fn from(ticks: Result<i32, Refusal>) -> LeewayReply {
+        match ticks {
+            Ok(leeway) => LeewayReply {
+                number: 0,
+                detail: 0,
+                leeway,
+            },
+            Err(refusal) => LeewayReply {
+                number: refusal.number(),
+                detail: refusal.detail(),
+                leeway: 0,
+            },
+        }
     }
 }
 
 // A + D − W − now, in 32 bits with a sign, where no step can leave the range.
-fn left(a: u16, d: u16, w: u16, now: u8) -> i32
-    requires { (a + d ≤ 255) × (w ≤ d) }
-    ensures { result ≡ ticks_left a d w now }
+fn left(job: Job, now: u8) -> i32
+    requires { (job.arrives + job.due ≤ 255) × (job.most ≤ job.due) }
+    ensures { result ≡ ticks_left job.arrives job.due job.most now }
 {
-    a as i32 + d as i32 - w as i32 - now as i32
+    i32::from(job.arrives) + i32::from(job.due) - i32::from(job.most) - i32::from(now)
 }
 
-// The leeway of a job in a state, in a good file with n jobs and so many rows. The job is asked for first, then the row, then the job's status.
-fn leeway_in(file: &[u8], n: u8, count: u32, word: u32, job: u32) -> LeewayReply
-    requires { Counts file.now n count }
-    ensures { Answers file.now (leeway_reply word job) result }
+// Whether a job of this status was started.
+fn was_started(status: Status) -> bool
+    ensures { Is result (2 ≤ number_of status) }
 {
-    if job < 1 {
-        return refusal(9, 0);
+    status == Status::Running || status == Status::Done
+}
+
+// The leeway of a job in a state, of a sheet of good form and these rows. The job is asked for first, then the row, then the job's status.
+fn leeway_in(contents: &Contents, word: u32, job: u32) -> Result<i32, Refusal>
+    requires { Good contents.now.sheet }
+    ensures { leeway_reply_of result ≡ leeway_reply word job (good contents.now.sheet contents.now.rows) }
+{
+    let jobs = contents.sheet.jobs();
+    if job < 1 || jobs.len() < job as usize {
+        return Err(Refusal::NoJob);
     }
-    if (n as u32) < job {
-        return refusal(9, 0);
-    }
-    let Found::At(_) = find(file, count as usize, word) else {
-        return refusal(8, 0);
+    let Some(_) = contents.rows.find(word) else {
+        return Err(Refusal::NoRow);
     };
-    if 2 <= status_in(word, job as u8) {
-        return refusal(12, 0);
+    if was_started(status_in(word, job as u8)) {
+        return Err(Refusal::Started);
     }
-    let at = HEADER + SLOT * (job - 1) as usize;
-    let arrives = read16(file, at);
-    let most = read16(file, at + 4);
-    let due = read16(file, at + 6);
-    LeewayReply {
-        number: 0,
-        detail: 0,
-        leeway: left(arrives, due, most, (word >> 24) as u8),
-    }
+    Ok(left(jobs[(job - 1) as usize], (word >> 24) as u8))
 }
 
-// The leeway of a job in a state, of any bytes: the whole file is read first.
+// The same of any bytes: the whole file is read first.
+fn leeway_of(file: &[u8], word: u32, job: u32) -> Result<i32, Refusal>
+    ensures { leeway_reply_of result ≡ leeway_reply word job (reading file.now) }
+{
+    let contents = read_for(file, PAST_ALL)?;
+    leeway_in(&contents, word, job)
+}
+
+// The leeway of a job in a state, of any bytes.
 pub fn leeway(file: &[u8], word: u32, job: u32) -> LeewayReply
     ensures { result ≡ leeway_reply word job (reading file.now) }
 {
-    let judgement = read_for(file, PAST_ALL);
-    match judgement {
-        Judgement::Bad(b) => refusal(7, b),
-        Judgement::Good(count) => leeway_in(file, file[3], count, word, job),
-    }
+    LeewayReply::from(leeway_of(file, word, job))
 }

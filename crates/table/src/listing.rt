@@ -3,15 +3,14 @@ ghost use Rattle.std.specs.Prelude.{◌≡◌, ◌≤◌, ◌+◌, ◌*◌, leng
 ghost use Rattle.blocks.specs.Sizes.{block_bytes, header_bytes};
 ghost use Rattle.blocks.specs.Bytes.{u16_at};
 ghost use Rattle.blocks.specs.Tab.{tab};
-ghost use Rattle.table.specs.Judging.{Counts};
-ghost use Rattle.table.specs.Replies.{Answers, unlisted, listing_reply};
+ghost use Rattle.table.specs.Reading.{good, Says};
+ghost use Rattle.table.specs.Replies.{Answers, IsListingReplyOf, listing_reply_of, listing_reply};
 ghost use Rattle.table.specs.Read.{reading};
 
-use crate::judge::{Judgement, PAST_ALL, read_for};
-use crate::place::word_at;
-use crate::row::row_at;
+use crate::judge::{Contents, PAST_ALL, read_for};
 use blocks::numbers::read16;
 use blocks::sizes::HEADER;
+use state::refusal::Refusal;
 
 // A listing's answer: number and detail, and on 0 the counts, the jobs' numbers (0 past the last job) and the row.
 #[repr(C)]
@@ -27,20 +26,24 @@ pub struct ListingReply {
     pub tick: u8,
 }
 
-// A refusal: nothing but its number and detail.
-fn unlisted_reply(number: u32, detail: u32) -> ListingReply
-    ensures { result ≡ unlisted number detail }
-{
-    let none = [0u16; 32];
-    ListingReply {
-        number: number,
-        detail: detail,
-        jobs: 0,
-        rows: 0,
-        numbers: none,
-        word: 0,
-        starts: 0,
-        tick: 0,
+// The reply to C: a listing as it is, or a refusal's number and detail.
+impl From<Result<ListingReply, Refusal>> for ListingReply {
+    ghost from_gives = { IsListingReplyOf };
+
+    fn from(listed: Result<ListingReply, Refusal>) -> ListingReply {
+        match listed {
+            Ok(reply) => reply,
+            Err(refusal) => ListingReply {
+                number: refusal.number(),
+                detail: refusal.detail(),
+                jobs: 0,
+                rows: 0,
+                numbers: [0; 32],
+                word: 0,
+                starts: 0,
+                tick: 0,
+            },
+        }
     }
 }
 
@@ -49,48 +52,46 @@ fn numbers_of(file: &[u8]) -> [u16; 32]
     requires { block_bytes ≤ length file.now }
     ensures { result ≡ tab 32 (λ i. u16_at file.now (header_bytes + 2 * i)) }
 {
-    let mut out = [0u16; 32];
-    let mut i: usize = 0;
-    while i < 32 {
-        out[i] = read16(file, HEADER + 2 * i);
-        i += 1;
+    let mut numbers = [0; 32];
+    for (i, number) in numbers.iter_mut().enumerate() {
+        *number = read16(file, HEADER + 2 * i);
     }
-    out
+    numbers
 }
 
-// The row of a number from 1, in a good file with n jobs and so many rows.
-fn listing_in(file: &[u8], n: u8, count: u32, row_number: u32) -> ListingReply
-    requires { Counts file.now n count }
-    ensures { Answers file.now (listing_reply row_number) result }
+// The row of a number from 1, in a good file that says these jobs and rows.
+fn listing_in(file: &[u8], contents: &Contents, row_number: u32) -> Result<ListingReply, Refusal>
+    requires { Says file.now (good contents.now.sheet contents.now.rows) }
+    ensures { Answers file.now (listing_reply row_number) (listing_reply_of result) }
 {
-    if row_number < 1 {
-        return unlisted_reply(8, 0);
+    let count = contents.rows.count() as u32;
+    if row_number < 1 || count < row_number {
+        return Err(Refusal::NoRow);
     }
-    if count < row_number {
-        return unlisted_reply(8, 0);
-    }
-    let i = (row_number - 1) as usize;
-    let told = row_at(file, i);
-    let numbers = numbers_of(file);
-    ListingReply {
+    let row = contents.rows.row((row_number - 1) as usize);
+    Ok(ListingReply {
         number: 0,
         detail: 0,
-        jobs: n as u32,
+        jobs: contents.sheet.count() as u32,
         rows: count,
-        numbers: numbers,
-        word: word_at(file, i),
-        starts: told.starts,
-        tick: told.tick,
-    }
+        numbers: numbers_of(file),
+        word: row.word,
+        starts: row.starts,
+        tick: row.tick,
+    })
 }
 
-// All jobs, the count of rows and the row of a number from 1, of any bytes: the whole file is read first.
+// The same of any bytes: the whole file is read first.
+fn listed(file: &[u8], row_number: u32) -> Result<ListingReply, Refusal>
+    ensures { listing_reply_of result ≡ listing_reply row_number (reading file.now) }
+{
+    let contents = read_for(file, PAST_ALL)?;
+    listing_in(file, &contents, row_number)
+}
+
+// All jobs, the count of rows and the row of a number from 1, of any bytes.
 pub fn listing(file: &[u8], row_number: u32) -> ListingReply
     ensures { result ≡ listing_reply row_number (reading file.now) }
 {
-    let judgement = read_for(file, PAST_ALL);
-    match judgement {
-        Judgement::Bad(b) => unlisted_reply(7, b),
-        Judgement::Good(count) => listing_in(file, file[3], count, row_number),
-    }
+    ListingReply::from(listed(file, row_number))
 }

@@ -1,10 +1,9 @@
 -- How the code reads a sheet: number after number, each with the byte behind it. `FieldLaws` and `ReadLaws` say that this is `SheetText`.
-use Rattle.std.specs.Prelude.{ℕ, suc, ◌-◌, ◌%◌, ◌^◌, ◌≤◌, ◌<◌, ◌≡◌, cond, List, [], ◌∷◌, ◌++◌, map, length, get_or, take, drop, replicate, eqb}
+use Rattle.std.specs.Prelude.{ℕ, suc, ◌%◌, ◌^◌, ◌≤◌, ◌<◌, ◌≡◌, cond, List, [], ◌∷◌, ◌++◌, map, length, get_or, take, drop, Option, Some, None, eqb}
 use Rattle.lines.specs.Digits.{Digit, value}
 use Rattle.lines.specs.Lines.{space, line_end}
 use Rattle.text.specs.SheetText.{Number, most_numbers}
-use Rattle.text.specs.declared.read.Found.{Found}
-use Rattle.text.specs.declared.read.Found.TheVariants.{Digits, Nothing}
+use Rattle.text.specs.declared.read.Field.{Field}
 
 -- One number ----------------------------------------------------------------------------------------------------------
 
@@ -24,9 +23,9 @@ pub record Fronted (e : ℕ) (s : List ℕ) (k v : ℕ) : Type 0 where
   pub worth : v ≡ value (take k s)
 
 -- what was found there: a number, or that there is none
-abbrev pub FoundTo : ℕ → List ℕ → Found → Type 0
-FoundTo e s (Digits k v) = Fronted e s k v
-FoundTo e s Nothing = (number rest : List ℕ) → Number number → ¬ (s ≡ number ++ (e ∷ rest))
+abbrev pub FoundTo : ℕ → List ℕ → Option Field → Type 0
+FoundTo e s (Some f) = Fronted e s f.digits f.value
+FoundTo e s None = (number rest : List ℕ) → Number number → ¬ (s ≡ number ++ (e ∷ rest))
 
 -- Number after number -------------------------------------------------------------------------------------------------
 
@@ -43,12 +42,12 @@ abbrev pub Numbers : List (List ℕ) → Type 0
 Numbers [] = Unit {0}
 Numbers (s ∷ l) = Number s × Numbers l
 
--- what the code holds after `count` numbers, at the place `at` of a text
-pub record SoFar (text numbers : List ℕ) (count at : ℕ) : Type 0 where
+-- what the code holds after `count` numbers, with the `rest` of a text before it
+pub record SoFar (text numbers : List ℕ) (count : ℕ) (rest : List ℕ) : Type 0 where
   pub read : List (List ℕ)
   pub each : Numbers read
   pub many : length read ≡ count
   pub few : count ≤ most_numbers
-  pub within : at ≤ length text
-  pub front : text ≡ run 0 read ++ drop at text
-  pub held : numbers ≡ map value read ++ replicate (most_numbers - count) 0
+  pub front : text ≡ run 0 read ++ rest
+  pub room : length numbers ≡ most_numbers
+  pub held : take count numbers ≡ map value read

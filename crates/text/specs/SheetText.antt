@@ -1,11 +1,10 @@
 -- What the printing program reads (01, "The printing program"): a sheet as text.
-use Rattle.std.specs.Prelude.{ℕ, ◌-◌, ◌*◌, ◌≤◌, ◌<◌, ◌≡◌, ◌⊎◌, true, false, length, get_or, replicate}
-use mathlib.Core.List.{List, [], ◌∷◌, ◌++◌, map, Memᴰ}
+use Rattle.std.specs.Prelude.{ℕ, ◌*◌, ◌≤◌, ◌<◌, ◌≡◌, Option, Some, None, length, get_or}
+use mathlib.Core.List.{List, [], ◌∷◌, map, Memᴰ}
 use Rattle.blocks.specs.Sizes.{most_jobs}
 use Rattle.blocks.specs.File.{joined}
 use Rattle.lines.specs.Digits.{Digit, value}
 use Rattle.lines.specs.Lines.{line}
-use Rattle.text.specs.declared.read.Parsed.{Parsed}
 
 -- "numbers of one to three digits"
 pub record Number (s : List ℕ) : Type 0 where
@@ -38,13 +37,7 @@ pub record Spells (text numbers : List ℕ) : Type 0 where
 abbrev pub most_numbers : ℕ
 most_numbers = 4 * most_jobs
 
--- the answer for numbers, with zeros past the last, and for no sheet
-abbrev pub taken : List ℕ → Parsed
-taken numbers = record { ok = true; count = length numbers; numbers = numbers ++ replicate (most_numbers - length numbers) 0 }
-
-abbrev pub refused : Parsed
-refused = record { ok = false; count = 0; numbers = replicate most_numbers 0 }
-
--- "Anything else is refusal 1."
-abbrev pub Reads : List ℕ → Parsed → Type 0
-Reads text r = ((numbers : List ℕ) × Spells text numbers × (r ≡ taken numbers)) ⊎ (((numbers : List ℕ) → ¬ (Spells text numbers)) × (r ≡ refused))
+-- the numbers that a text spells, or none: "Anything else is refusal 1."
+abbrev pub Reads : List ℕ → Option (List ℕ) → Type 0
+Reads text (Some numbers) = Spells text numbers
+Reads text None = (numbers : List ℕ) → ¬ (Spells text numbers)

@@ -1,115 +1,96 @@
 // A sheet read from text, number after number.
-ghost use Rattle.std.specs.Prelude.{◌≡◌, ◌-◌, ◌≤◌, length, drop};
-ghost use Rattle.lines.specs.Digits.{digit, Digit};
-ghost use Rattle.text.specs.SheetText.{Reads, refused};
+ghost use Rattle.std.specs.Prelude.{◌≡◌, length};
+ghost use Rattle.lines.specs.Digits.{Digit};
+ghost use Rattle.text.specs.SheetText.{Reads};
 ghost use Rattle.text.specs.Fields.{FoundTo, ending};
 
-use lines::bytes::{LINE_END, NINE, SPACE, ZERO};
+use std::marker::Model;
 
 // The numbers of eight jobs.
 const MOST: usize = 32;
 
-// What a text says: whether it is a sheet, how many numbers it has, and they, with zeros past the last.
-#[derive(Clone, Copy)]
-pub struct Parsed {
-    pub ok: bool,
-    pub count: usize,
-    pub numbers: [u16; MOST],
+// The digits of the longest number.
+const MOST_DIGITS: usize = 3;
+
+// The numbers of a sheet as a text says them, four to a job.
+#[derive(Drop)]
+pub struct Numbers {
+    numbers: [u16; MOST],
+    count: usize,
 }
 
-// What stands at a place: a number of so many digits with this value, or none.
-#[derive(Clone, Copy)]
-enum Found {
-    Digits(usize, u16),
-    Nothing,
+impl Model for Numbers {
+    ghost use Rattle.std.specs.Prelude.{ℕ, List, ◌≤◌, take};
+
+    ghost Value = { List ℕ };
+
+    ghost view = { λ n. take n.count n.numbers };
+
+    ghost invariant = { λ n. n.count ≤ 32 };
 }
 
-// The answer for anything that is no sheet.
-fn refused() -> Parsed
-    ensures { result ≡ refused }
-{
-    Parsed {
-        ok: false,
-        count: 0,
-        numbers: [0; MOST],
+impl Numbers {
+    // The numbers, in their order.
+    pub fn as_slice(&self) -> &[u16]
+        ensures { result.now ≡ self.now }
+    {
+        &self.numbers[..self.count]
     }
+}
+
+// A number that stands in front of a text: how many digits it has, and its value.
+struct Field {
+    digits: usize,
+    value: u16,
 }
 
 // The byte behind the number at place k, counted from 0: each fourth number ends its line.
 fn end_of(k: usize) -> u8
     ensures { result ≡ ending k }
 {
-    if k % 4 == 3 {
-        return LINE_END;
-    }
-    SPACE
+    if k % 4 == 3 { b'\n' } else { b' ' }
 }
 
-// The number of a digit.
-fn digit_value(b: u8) -> u16
-    requires { Digit b }
-    ensures { (result ≡ b - digit 0) × (result ≤ 9) }
+// The number of one to three digits in front of a text, with the byte `end` behind it. Digits are passed; the first other byte decides.
+fn number_in_front(text: &[u8], end: u8) -> Option<Field>
+    requires { ¬ (Digit end) }
+    ensures { FoundTo end text.now result }
 {
-    (b - ZERO) as u16
-}
-
-// The number of one to three digits that stands at a place with the byte `end` behind it. Digits are passed; the first other byte decides.
-fn number_at(text: &[u8], at: usize, end: u8) -> Found
-    requires { (at ≤ length text.now) × ¬ (Digit end) }
-    ensures { FoundTo end (drop at text.now) result }
-{
-    let mut digits: usize = 0;
     let mut value: u16 = 0;
-    while at + digits < text.len() {
-        let b = text[at + digits];
-        if b == end {
-            if digits == 0 {
-                return Found::Nothing;
-            }
-            return Found::Digits(digits, value);
+    for (digits, b) in text.iter().enumerate() {
+        if *b == end {
+            return if digits == 0 {
+                None
+            } else {
+                Some(Field { digits, value })
+            };
         }
-        if digits == 3 {
-            return Found::Nothing;
+        if digits == MOST_DIGITS || !b.is_ascii_digit() {
+            return None;
         }
-        if b < ZERO {
-            return Found::Nothing;
-        }
-        if NINE < b {
-            return Found::Nothing;
-        }
-        value = 10 * value + digit_value(b);
-        digits += 1;
+        value = 10 * value + u16::from(*b - b'0');
     }
-    Found::Nothing
+    None
 }
 
 // Reads a text as a sheet. Number after number is taken with the byte that has to stand behind it, so the text has one reading at most.
-pub fn parse(text: &[u8]) -> Parsed
+pub fn parse(text: &[u8]) -> Option<Numbers>
     ensures { Reads text.now result }
 {
-    let mut numbers = [0u16; MOST];
+    let mut numbers = [0; MOST];
     let mut count: usize = 0;
-    let mut at: usize = 0;
-    while at < text.len() {
+    let mut rest = text;
+    while !rest.is_empty() {
         if count == MOST {
-            return refused();
+            return None;
         }
-        let Found::Digits(digits, value) = number_at(text, at, end_of(count)) else {
-            return refused();
-        };
+        let Field { digits, value } = number_in_front(rest, end_of(count))?;
         numbers[count] = value;
         count += 1;
-        at += digits + 1;
+        rest = &rest[digits + 1..];
     }
-    if count == 0 {
-        return refused();
+    if count == 0 || count % 4 != 0 {
+        return None;
     }
-    if count % 4 != 0 {
-        return refused();
-    }
-    Parsed {
-        ok: true,
-        count: count,
-        numbers: numbers,
-    }
+    Some(Numbers { numbers, count })
 }

@@ -3,50 +3,39 @@
 #![tactic(auto)]
 
 ghost use Rattle.std.specs.Prelude.{◌≡◌, map, ◌≤◌, ◌+◌, ◌*◌, min, length, take};
-ghost use Rattle.blocks.specs.Sizes.{block_bytes, body_bytes, block_slots, most_jobs, most_rows};
+ghost use Rattle.blocks.specs.Sizes.{block_bytes, body_bytes, block_slots, most_rows};
 ghost use Rattle.blocks.specs.File.{header, sealed, block_of, job_slot, row_slot, blocks_of};
-ghost use Rattle.sheet.specs.Arrays.{job_of, sheet_of};
 ghost use Rattle.blocks.specs.Tab.{row_of};
 
-use blocks::check;
+use blocks::block::as_block;
+use blocks::check::check_of;
 use blocks::letters::LETTERS;
-use blocks::numbers::{bytes32, high, low};
 use blocks::put::{put, put_zeros};
 use blocks::sizes::{BLOCK, BODY, HEADER, SLOT, SLOTS};
+use sheet::Job;
+use state::jobs::JobSheet;
 
 // The bytes before the slots: letters, jobs, slots used, block number, number of blocks.
 pub fn header_of(n: u8, used: u8, k: u16, total: u16) -> [u8; HEADER]
     ensures { result ≡ header n used k total }
 {
+    let k = k.to_le_bytes();
+    let total = total.to_le_bytes();
     [
-        LETTERS[0],
-        LETTERS[1],
-        n,
-        used,
-        low(k),
-        high(k),
-        low(total),
-        high(total),
+        LETTERS[0], LETTERS[1], n, used, k[0], k[1], total[0], total[1],
     ]
 }
 
 // A job's slot: its four numbers in two bytes each.
-fn job_slot(job: [u16; 4]) -> [u8; SLOT]
-    ensures { result ≡ job_slot (job_of job) }
+fn job_slot(job: Job) -> [u8; SLOT]
+    ensures { result ≡ job_slot job }
 {
-    let a = job[0];
-    let b = job[1];
-    let w = job[2];
-    let d = job[3];
+    let arrives = job.arrives.to_le_bytes();
+    let fewest = job.fewest.to_le_bytes();
+    let most = job.most.to_le_bytes();
+    let due = job.due.to_le_bytes();
     [
-        low(a),
-        high(a),
-        low(b),
-        high(b),
-        low(w),
-        high(w),
-        low(d),
-        high(d),
+        arrives[0], arrives[1], fewest[0], fewest[1], most[0], most[1], due[0], due[1],
     ]
 }
 
@@ -54,46 +43,40 @@ fn job_slot(job: [u16; 4]) -> [u8; SLOT]
 pub fn row_slot(word: u32, mark: u32) -> [u8; SLOT]
     ensures { result ≡ row_slot (row_of word mark) }
 {
-    let w = bytes32(word);
-    let m = bytes32(mark);
+    let w = word.to_le_bytes();
+    let m = mark.to_le_bytes();
     [w[0], w[1], w[2], w[3], m[0], m[1], 0, 0]
 }
 
 // Ends a block whose header and slots stand up to a place: zeros behind them, and the check of all that.
+// A part that is written stays a slice (tried: once an array lent from a slice ends, a proof knows its length alone).
 pub fn seal(part: &mut [u8], at: usize)
     requires { (length part.old ≡ block_bytes) × (at ≤ body_bytes) }
     ensures { part.new ≡ sealed (take at part.old) }
 {
     put_zeros(part, at, BODY);
-    let bytes = bytes32(check::check_of(part));
-    put(part, BODY, &bytes);
+    let check = check_of(as_block(part));
+    put(part, BODY, &check.to_le_bytes());
 }
 
 // Writes block 0 of a file: the header, a slot a job, zeros and the check, each put behind what stands already.
-pub fn write_jobs(part: &mut [u8], n: u8, total: u16, jobs: [[u16; 4]; 8])
-    requires { (length part.old ≡ block_bytes) × (n ≤ most_jobs) }
-    ensures { part.new ≡ block_of n 0 total (map job_slot (sheet_of jobs n)) }
+pub fn write_jobs(part: &mut [u8], total: u16, sheet: &JobSheet)
+    requires { length part.old ≡ block_bytes }
+    ensures { part.new ≡ block_of (length sheet.now) 0 total (map job_slot sheet.now) }
 {
-    let head = header_of(n, n, 0, total);
-    put(part, 0, &head);
-    let many = n as usize;
-    let mut s: usize = 0;
-    while s < many {
-        let slot = job_slot(jobs[s]);
-        put(part, HEADER + SLOT * s, &slot);
-        s += 1;
+    let count = sheet.count();
+    put(part, 0, &header_of(count as u8, count as u8, 0, total));
+    for (s, job) in sheet.jobs().iter().enumerate() {
+        put(part, HEADER + SLOT * s, &job_slot(*job));
     }
-    seal(part, HEADER + SLOT * many);
+    seal(part, HEADER + SLOT * count);
 }
 
 // The slots that so many rows left fill in one block: all of them, where there are that many.
 pub fn used_by(left: usize) -> u8
     ensures { (result ≡ min block_slots left) × (result ≤ block_slots) }
 {
-    if left < SLOTS {
-        return left as u8;
-    }
-    SLOTS as u8
+    left.min(SLOTS) as u8
 }
 
 // The blocks of a file of so many rows: block 0, and one for each 62 rows or fewer.
@@ -101,7 +84,7 @@ pub fn blocks_of(count: usize) -> usize
     requires { count ≤ most_rows }
     ensures { result ≡ blocks_of count }
 {
-    1 + (count + (SLOTS - 1)) / SLOTS
+    1 + count.div_ceil(SLOTS)
 }
 
 // The bytes of a file of so many rows.

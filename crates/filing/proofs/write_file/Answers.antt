@@ -1,57 +1,58 @@
--- `write_file`: before each turn the blocks so far stand in front, and the rest is as it was. Assumes nothing.
-use Prim.Native.Nat.{ℕ, ◌+◌, ◌-◌, ◌*◌}
-use native.Mathlib.Omega.{arith}
-use mathlib.Core.Path.{◌≡◌, refl, ap, ◌∙◌}
-use mathlib.Core.List.{List, ◌++◌}
-use lib.ListN.{drop}
+-- Before each turn the blocks so far stand in front, and the rest is as it was. Assumes nothing.
+use Rattle.std.proofs.Common.{ℕ, ◌+◌, ◌-◌, ◌*◌, ◌≤◌, ◌≡◌, refl, ap, ◌∙◌, arith, List, ◌++◌, length, drop, take, length-append, length-drop, length-take}
 use borrow.Rule.Slice.PartMut.{same_len_mid}
-use Rattle.sheet.specs.Arrays.{sheet_of}
-use Rattle.sheet.proofs.ArraysLaws.{length_sheet}
-use Rattle.order.specs.LentLaws.{place_small}
-use Rattle.blocks.specs.Sizes.{block_bytes}
+use Rattle.blocks.specs.Sizes.{block_bytes, block_slots}
 use Rattle.blocks.specs.File.{blocks_of}
-use Rattle.blocks.specs.FileLaws.{block_more, block_first, jobs_block, rows_block}
-use Rattle.filing.specs.FilingLaws.{all_filed}
-use borrow.Author.Rules.{rules}
-use Rattle.filing.proofs.write_file.Invariants.{rows}
+use Rattle.blocks.specs.FileLaws.{block_more, block_first}
+use Rattle.filing.specs.Filing.{entries_at}
+use Rattle.filing.specs.FilingLaws.{part_of, rows_block, all_filed}
+use Rattle.filing.specs.PlaceLaws.{part_in}
 use Rattle.filing.proofs.write_file.Goals as goal
 
-pub loop-b-init : goal.loop-b-init
-loop-b-init c = (search rules, search rules, refl, λ σ old l e. e)
+pub slice_bounds-write_jobs-end-2 : goal.slice_bounds-write_jobs-end-2
+slice_bounds-write_jobs-end-2 c = omega (arith, length-take block_bytes c.args.out.now, c.requires.room)
 
-pub write_rows-requires : goal.write_rows-requires
-write_rows-requires c =
-    let x = c.requires.n_le_most_jobs.1 in
-    let u = c.used_by-used.ensures.0 in
-    record { part_len = search rules; used_bound = (omega (arith, u, x.room), x.words, λ i h. place_small _ _ _ 0 x i (omega (arith, u, h))) }
+pub write_jobs-requires : goal.write_jobs-requires
+write_jobs-requires c = omega (arith, length-take block_bytes c.args.out.now, c.requires.room)
+
+pub loop-b-init : goal.loop-b-init
+loop-b-init c =
+    let a = c.args in
+    let few : length a.sheet.now ≤ block_slots = omega (arith, c.count-n.ensures.same, c.count-n.ensures.few) in (
+      omega (arith, length-append c.write_jobs.new.part (drop block_bytes a.out.now), length-drop block_bytes a.out.now, length-take block_bytes a.out.now, c.write_jobs.auto.part, c.requires.room),
+      block_first c.blocks_of-total.result a.sheet.now (entries_at a.work.now a.places.now) few a.out.now c.write_jobs.new.part _ c.write_jobs.ensures refl,
+    )
+
+pub write_rows-requires-clause-places_in : goal.write_rows-requires-clause-places_in
+write_rows-requires-clause-places_in c =
+    let from = block_slots * (c.loop-b.b - 1) in
+    let l = c.args.places.now in (
+      part_in c.requires.places_in (c.min-end.result - from) from,
+      omega (arith, length-take (c.min-end.result - from) (drop from l), c.min-end.ensures),
+    )
 
 pub loop-b-preserved : goal.loop-b-preserved
 loop-b-preserved c =
     let a = c.args in
     let l = c.loop-b in
     let w = c.write_rows in
-    let u = c.used_by-used in
     let t = c.blocks_of-total.result in
-    let e : (block_bytes * l.b + block_bytes) - block_bytes * l.b ≡ block_bytes = omega arith in (
-      search rules,
-      search rules,
-      same_len_mid (block_bytes * l.b) (block_bytes * l.b + block_bytes - block_bytes * l.b) l.out w.new.part w.auto.part ∙ l.invariant.2,
-      λ σ old m q. block_more t σ (rows a.work.now a.order.now a.count) (omega arith) old l.out w.new.part _ l.b (l.invariant.3 σ old m q)
-          (rows_block a.n t l.b a.count u.result _ σ w.new.part (omega arith) m u.ensures.0 w.ensures) (rw e refl),
+    let σ = a.sheet.now in
+    let from = block_slots * (l.b - 1) in
+    let e : (block_bytes * l.b + block_bytes) - block_bytes * l.b ≡ block_bytes = omega arith in
+    let part : take (c.min-end.result - from) (drop from a.places.now) ≡ take block_slots (drop from a.places.now) =
+    rw c.min-end.ensures (part_of a.places.now from (omega (arith, c.loop-b-test.true, c.blocks_of-total.ensures))) in
+    let few : length σ ≤ block_slots = omega (arith, c.count-n.ensures.same, c.count-n.ensures.few) in
+    let block = rows_block c.count-n.result t l.b a.work.now a.places.now _ σ w.new.part (omega arith) c.count-n.ensures.same part w.ensures in (
+      same_len_mid (block_bytes * l.b) (block_bytes * l.b + block_bytes - block_bytes * l.b) l.out w.new.part w.auto.part ∙ l.invariant.0,
+      block_more t σ (entries_at a.work.now a.places.now) few a.out.now l.out w.new.part _ l.b l.invariant.1 block (rw e refl),
     )
 
 pub returns : goal.returns
 returns c =
     let a = c.args in
     let l = c.loop-b in
-    let w = c.write_jobs in
     let t = c.blocks_of-total in
-    let σ = sheet_of a.jobs a.n in
-    let R = rows a.work.now a.order.now a.count in
-    let n = length_sheet a.jobs a.n (search rules) in
-    let e : l.b ≡ blocks_of a.count = omega arith in
-    let j = jobs_block a.jobs a.n (search rules) (search rules) t.result R w.new.part w.ensures in
-    let f = block_first t.result σ R (omega arith) a.out.now w.new.part _ j refl in
-    rw (e, t.ensures) at (l.invariant.3 σ a.out.now n f)
-    ∙ ap (λ (w : List ℕ). w ++ drop (block_bytes * blocks_of a.count) a.out.now)
-    (all_filed a.work.now a.order.now a.count σ (omega (arith, c.requires.n_le_most_jobs.1.room, c.requires.n_le_most_jobs.1.halves)))
+    let e : l.b ≡ blocks_of (length a.places.now) = omega (arith, t.ensures) in
+    rw (e, t.ensures) at l.invariant.1
+    ∙ ap (λ (w : List ℕ). w ++ drop (block_bytes * blocks_of (length a.places.now)) a.out.now) (all_filed a.work.now a.places.now a.sheet.now)

@@ -1,23 +1,24 @@
--- `write_rows`: before each turn the header and the slots so far stand in front. Assumes nothing.
-use Prim.Native.Nat.{◌+◌}
-use native.Mathlib.Omega.{arith}
-use mathlib.Core.Path.{refl}
+-- Before each turn the header and the slots so far stand in front. Assumes nothing.
+use Rattle.std.proofs.Common.{refl, ap, ◌∙◌, List, map}
+use Rattle.sheet.specs.Table.{Entry}
+use Rattle.blocks.specs.File.{block_of, row_slot}
 use Rattle.writer.specs.WriteLaws.{filled_none, filled_more, filled_all}
+use Rattle.filing.specs.FilingLaws.{rows_at}
+use Rattle.filing.specs.PlaceLaws.{place_small}
 use Rattle.filing.proofs.write_rows.Goals as goal
 
 pub loop-s-init : goal.loop-s-init
-loop-s-init c =
-    filled_none c.args.part.now c.requires.part_len.0 (rw c.header_of-head.ensures at c.put.ensures)
+loop-s-init c = filled_none c.args.part.now c.requires.part_len (rw c.header_of.ensures at c.put.ensures)
 
-pub slot_at-slot-requires : goal.slot_at-slot-requires
-slot_at-slot-requires c =
-    (omega arith, (c.requires.used_bound.2 (c.args.from + c.loop-s.s) (omega arith), c.requires.used_bound.1))
+pub slot_at-requires : goal.slot_at-requires
+slot_at-requires c = (place_small c.requires.places_in.0 c.loop-s.s c.loop-s-test.true, c.requires.places_in.0.words)
 
 pub loop-s-preserved : goal.loop-s-preserved
 loop-s-preserved c =
-    let l = c.loop-s in
-    filled_more (λ x. refl) (omega arith) l.invariant (omega arith)
-    c.slot_at-slot.ensures c.put-in-loop-s.ensures
+    filled_more (λ x. refl) c.requires.places_in.1 c.loop-s.invariant c.loop-s-test.true c.slot_at.ensures c.put-in-loop-s.ensures
 
 pub returns : goal.returns
-returns c = filled_all c.loop-s.invariant (omega arith) c.seal.ensures
+returns c =
+    let a = c.args in
+    filled_all c.loop-s.invariant c.loop-s-test.false c.seal.ensures
+    ∙ ap (λ (l : List Entry). block_of a.n a.k a.total (map row_slot l)) (rows_at a.work.now a.places.now)

@@ -1,13 +1,9 @@
--- `write_rows`: before each turn the header and the slots so far stand in front. Assumes nothing.
-use Prim.Native.Nat.{◌+◌, ◌-◌}
-use lib.ListN.{get_or}
+-- Before each turn the header and the slots so far stand in front.
+use Rattle.std.proofs.Common.{length, get_or}
 use Rattle.blocks.specs.File.{row_slot}
 use Rattle.writer.specs.WriteLaws.{Filled}
 use Rattle.filing.specs.Filing.{entry_at}
 use Rattle.filing.proofs.write_rows.Given as goal
 
 abbrev pub invariant-loop-s : goal.invariant-loop-s
-invariant-loop-s l = Filled row_slot l.n l.k l.total l.used (λ i. entry_at l.work (get_or l.order (l.from + i) 0)) l.part l.s
-
-abbrev pub decreases-loop-s : goal.decreases-loop-s
-decreases-loop-s l = l.used - l.s
+invariant-loop-s l = Filled row_slot l.n l.k l.total (length l.places) (λ i. entry_at l.work (get_or l.places i 0)) l.part l.s

@@ -1,23 +1,24 @@
 -- `write_jobs`: before each turn the header and the slots so far stand in front. Assumes nothing.
-use native.Mathlib.Omega.{arith}
-use mathlib.Core.Path.{refl}
-use Rattle.blocks.specs.FileLaws.{sheet_tab}
+use Rattle.std.proofs.Common.{arith, List, length, map, refl, sym, ap, ◌∙◌}
+use Rattle.sheet.specs.declared.Job.{Job}
+use Rattle.sheet.specs.Model.{no_job}
+use Rattle.blocks.specs.File.{block_of, job_slot}
+use Rattle.blocks.specs.TabLaws.{is_tab}
 use Rattle.writer.specs.WriteLaws.{filled_none, filled_more, filled_all}
-use borrow.Author.Rules.{rules}
 use Rattle.writer.proofs.write_jobs.Goals as goal
 
 pub loop-s-init : goal.loop-s-init
-loop-s-init c =
-    filled_none c.args.part.now c.requires.0 (rw c.header_of-head.ensures at c.put.ensures)
+loop-s-init c = filled_none c.args.part.now c.requires (rw (c.header_of.ensures, c.count-count.ensures.same) at c.put.ensures)
 
 pub loop-s-preserved : goal.loop-s-preserved
 loop-s-preserved c =
-    let l = c.loop-s in
-    filled_more (λ x. refl) (omega arith) l.invariant (omega arith)
-    c.job_slot-slot.ensures c.put-in-loop-s.ensures
+    let n = ap length c.jobs-job-items.ensures.same in
+    filled_more (λ x. refl) (omega arith) c.loop-s.invariant (omega arith)
+    (rw c.jobs-job-items.ensures.same at c.job_slot.ensures) c.put-in-loop-s.ensures
 
 pub returns : goal.returns
 returns c =
-    let a = c.args in
-    let l = c.loop-s in
-    rw (sheet_tab a.jobs a.n (search rules) (search rules)) (filled_all l.invariant (omega arith) c.seal.ensures)
+    let s = c.args.sheet.now in
+    let n = ap length c.jobs-job-items.ensures.same in
+    filled_all c.loop-s.invariant (omega arith) (rw c.count-count.ensures.same at c.seal.ensures)
+    ∙ ap (λ (jobs : List Job). block_of (length s) 0 c.args.total (map job_slot jobs)) (sym (is_tab s no_job))

@@ -1,56 +1,40 @@
 -- Each job passed fits, and what is told of them grows by one job. Assumes nothing.
-use mathlib.Core.Path.{◌≡◌}
-use native.Mathlib.Omega.{arith}
-use borrow.Author.Rules.{rules}
-use borrow.Author.Tests.{not-true, not-false}
-use Rattle.sheet.specs.Model.{state_of}
-use Rattle.sheet.proofs.WordLaws.{digits_lt}
-use Rattle.sheet.specs.Arrays.{sheet_of}
+use Rattle.std.proofs.Common.{◌≡◌, length, arith, ap}
 use Rattle.state.specs.Tell.{told_yes, told_no}
 use Rattle.form.specs.PassLaws.{pass_none, not_fit, two_run, pass_more}
 use Rattle.form.proofs.row.pass.Goals as goal
 
 pub loop-k-init : goal.loop-k-init
-loop-k-init c = let a = c.args in (search rules, pass_none (sheet_of a.jobs a.n) (state_of a.word) a.starts a.code)
-
-pub job_fits-requires : goal.job_fits-requires
-job_fits-requires c = (rw c.status_in-s.ensures (digits_lt 8 _ _), search rules)
+loop-k-init c = pass_none _ _ _ _
 
 pub returns-then-not-job_fits : goal.returns-then-not-job_fits
 returns-then-not-job_fits c =
-    let a = c.args in
-    let l = c.loop-k in
-    let st = c.status_in-s in
-    let m = c.has-marked in
-    not_fit a.jobs a.n a.word a.starts a.code l.k (search rules) st.result m.result st.ensures m.ensures
-    (rw (c.now_of-now.ensures.0, c.elapsed_of-elapsed.ensures)
-    at (told_no c.job_fits.ensures (not-true _ c.if-not-job_fits.true-raw)))
+    let row = c.args.row in
+    let n = ap length c.jobs-job-items.ensures.same in
+    let fits = rw (c.jobs-job-items.ensures.same, c.now_of-now.ensures, c.elapsed_of-elapsed.ensures) at c.job_fits.ensures in
+    not_fit c.args.sheet.now row.word row.starts row.tick c.loop-k.k (omega arith) _ _ c.status_in-status.ensures c.has-marked.ensures
+    (told_no fits c.if-not-job_fits.true)
 
-pub returns-then-running-s : goal.returns-then-running-s
-returns-then-running-s c =
-    let a = c.args in
-    let l = c.loop-k in
-    let st = c.status_in-s in
-    let m = c.has-marked in
-    two_run a.jobs a.n a.word a.starts a.code l.k (search rules) st.result m.result st.ensures m.ensures l.running l.invariant.1.1 c.if-running-s.true
+pub returns-then-passed-runs : goal.returns-then-passed-runs
+returns-then-passed-runs c =
+    let row = c.args.row in
+    let n = ap length c.jobs-job-items.ensures.same in
+    two_run c.args.sheet.now row.word row.starts row.tick c.loop-k.k (omega arith) _ _ c.status_in-status.ensures c.has-marked.ensures
+    _ _ c.runs-runs.ensures c.loop-k.invariant.1 c.if-passed-runs.true
 
 pub loop-k-preserved : goal.loop-k-preserved
 loop-k-preserved c =
-    let a = c.args in
-    let l = c.loop-k in
-    let st = c.status_in-s in
-    let m = c.has-marked in
-    let n = c.now_of-now.ensures.0 in
-    let e = c.elapsed_of-elapsed.ensures in (
-      search rules,
-      pass_more a.jobs a.n a.word a.starts a.code l.k (search rules) st.result m.result st.ensures m.ensures l.running
-          l.pending l.spent c.pends-pending.result c.spends-spent.result
-          (rw (n, e) at (told_yes c.job_fits.ensures (not-false _ c.if-not-job_fits.false-raw)))
-          c.if-running-s.false (rw n at c.pends-pending.ensures) (rw e at c.spends-spent.ensures) l.invariant.1,
-    )
+    let row = c.args.row in
+    let n = ap length c.jobs-job-items.ensures.same in
+    let fits = rw (c.jobs-job-items.ensures.same, c.now_of-now.ensures, c.elapsed_of-elapsed.ensures) at c.job_fits.ensures in
+    pass_more c.args.sheet.now row.word row.starts row.tick c.loop-k.k (omega arith) _ _ c.status_in-status.ensures c.has-marked.ensures
+    c.loop-k.passed _ c.runs-runs.ensures _ _ (told_yes fits c.if-not-job_fits.false) c.if-passed-runs.false
+    (rw (c.jobs-job-items.ensures.same, c.now_of-now.ensures) at c.pends.ensures)
+    (rw (c.jobs-job-items.ensures.same, c.elapsed_of-elapsed.ensures) at c.spends.ensures)
+    c.loop-k.invariant
 
 pub returns : goal.returns
 returns c =
-    let a = c.args in
-    let e : c.loop-k.k ≡ a.n = omega arith in
-    rw e at c.loop-k.invariant.1
+    let n = ap length c.jobs-job-items.ensures.same in
+    let e : c.loop-k.k ≡ length c.args.sheet.now = omega arith in
+    rw e at c.loop-k.invariant

@@ -1,12 +1,9 @@
 -- `put_rows`: before each turn the rows passed are printed. Assumes nothing.
-use Prim.Native.Nat.{◌+◌, ◌-◌, ◌*◌, ◌≤◌}
+use Rattle.std.proofs.Common.{◌+◌, ◌*◌, ◌≤◌}
 use Rattle.lines.specs.Lines.{line_bytes}
-use Rattle.lines.specs.Printed.{Printed}
+use Rattle.lines.specs.Pages.{Adds}
 use Rattle.printing.specs.RowLines.{lines_of}
 use Rattle.printing.proofs.listing.put_rows.Given as goal
 
 abbrev pub invariant-loop-i : goal.invariant-loop-i
-invariant-loop-i l = (l.i ≤ l.count) × ((l.next ≤ l.at + line_bytes * l.i) × Printed l.initial.out l.at (lines_of l.n l.file l.i) l.next l.out)
-
-abbrev pub decreases-loop-i : goal.decreases-loop-i
-decreases-loop-i l = l.count - l.i
+invariant-loop-i l = (l.page.end ≤ l.fn.page.end + line_bytes * l.i) × Adds l.fn.page (lines_of l.n l.file l.i) l.page

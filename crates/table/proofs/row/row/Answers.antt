@@ -1,5 +1,5 @@
 -- The whole file says one thing only, and the reply is the reply to that. Assumes nothing.
-use native.Mathlib.Omega.{arith}
+use Rattle.std.proofs.Common.{arith}
 use Rattle.table.specs.ReadForLaws.{whole_answer}
 use Rattle.table.specs.Replies.{row_reply}
 use Rattle.table.proofs.row.row.Goals as goal
@@ -7,4 +7,4 @@ use Rattle.table.proofs.row.row.Goals as goal
 pub returns : goal.returns
 returns c =
     let a = c.args in
-    whole_answer a.file.now (λ i. omega (arith, c.shared_slice_known-1.given i)) (row_reply a.word) _ c.row_read.ensures
+    whole_answer a.file.now (λ i. omega (arith, c.type_inv.file i)) (row_reply a.word) _ c.row_read.ensures

@@ -1,5 +1,5 @@
 -- After i turns the first i statuses are the word's first i digits, and the others are the digits of the rest. Assumes nothing.
-use Rattle.std.proofs.Common.{rules, arith, refl, ◌/◌}
+use Rattle.std.proofs.Common.{rules, refl, ◌/◌}
 use Rattle.sheet.specs.Model.{digits}
 use Rattle.state.proofs.Packing.{low_byte, unpack_turn, unpacked}
 use Rattle.state.proofs.word.StateFromU32.from.Goals as goal

@@ -1,0 +1,18 @@
+-- The whole file says one thing only, and the reply is the reply to that. Assumes nothing.
+use Rattle.std.proofs.Common.{arith, refl}
+use Rattle.std.proofs.lemmas.Result.{err_from_is_err_and}
+use Rattle.table.specs.Reading.{bad}
+use Rattle.table.specs.ReadLaws.{answer_is}
+use Rattle.table.specs.ReadForLaws.{whole_answer}
+use Rattle.table.specs.Replies.{listing_reply}
+use Rattle.table.proofs.listing.listed.Goals as goal
+
+pub returns-in_err-contents : goal.returns-in_err-contents
+returns-in_err-contents c =
+    let p = err_from_is_err_and c.from_residual.result c.from_residual.ensures.1 in
+    let e = c.in_err-contents.ensures in
+    whole_answer c.args.file.now (λ i. omega (arith, c.type_inv.file i)) (listing_reply c.args.row_number) _
+    (bad e.0, e.2, rw (p.1, p.2, e.1) refl)
+
+pub returns : goal.returns
+returns c = answer_is c.args.file.now (λ i. omega (arith, c.type_inv.file i)) (listing_reply c.args.row_number) _ c.listing_in.ensures

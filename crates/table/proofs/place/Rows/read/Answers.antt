@@ -1,0 +1,20 @@
+-- The rows of good blocks, in their places. Assumes nothing.
+use Rattle.std.proofs.Common.{ℕ, ◌+◌, ◌-◌, ◌*◌, ◌≡◌, length, List, sym, ap, subst, ◌∙◌}
+use Rattle.sheet.specs.Model.{Sheet}
+use Rattle.sheet.specs.Table.{Entry}
+use Rattle.table.specs.Reading.{Reads}
+use Rattle.table.specs.Places.{rows_in, Placed}
+use Rattle.table.specs.PlaceLaws.{rows_are, rows_counted, rows_placed}
+use Rattle.table.proofs.place.Rows.read.Goals as goal
+
+counted : (c : goal.After-from) (σ : Sheet) (rows : List Entry) → Reads c.args.file.now c.args.b σ rows → length rows ≡ 62 * (c.args.b - 1) + c.from.result
+counted c σ rows r = sym (rw (← c.from.ensures) at (rows_counted c.requires.0 r c.requires.1.0))
+
+pub invariant_of-result : goal.invariant_of-result
+invariant_of-result c =
+    let g = c.requires.1.1 in
+    subst (Placed c.args.file.now) (counted c g.0 g.1 g.2) (rows_placed c.requires.0 g.2)
+
+pub returns : goal.returns
+returns c =
+    λ σ rows r. ap (λ (n : ℕ). rows_in c.args.file.now n) (sym (counted c σ rows r)) ∙ rows_are c.requires.0 r
