@@ -52,7 +52,7 @@ fn framed(block: &[u8; BLOCK], n: u8, used: u8, k: u16, total: u16) -> bool
 }
 
 // The job whose four numbers stand at a place.
-fn job_at(block: &[u8; BLOCK], at: usize) -> Job
+pub fn job_at(block: &[u8; BLOCK], at: usize) -> Job
     requires { at + 8 ≤ length block.now }
     ensures { result ≡ job_from block.now at }
 {

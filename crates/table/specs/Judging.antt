@@ -1,17 +1,18 @@
--- What the reading of a file's blocks for a word answers: what they say, or the block that is bad.
+-- What the reading of a file's blocks for a word answers: their rows, or the block that is bad.
 use Rattle.std.specs.Prelude.{ℕ, ◌≡◌, List, Result, Ok, Err}
+use Rattle.sheet.specs.Model.{Sheet}
 use Rattle.state.specs.declared.refusal.Refusal.{Refusal}
 use Rattle.state.specs.declared.refusal.Refusal.TheVariants.{BadBlock}
 use Rattle.form.specs.BlockTest.{JobsBlock}
 use Rattle.table.specs.Reading.{total, block_at, Sized, good, bad}
 use Rattle.table.specs.ReadFor.{ReadFor}
-use Rattle.table.specs.declared.judge.Contents.{Contents}
+use Rattle.table.specs.declared.place.Rows.{Rows}
 
 -- a length that files have, and a good block 0
 abbrev pub Opens : List ℕ → Type 0
 Opens file = Sized file × JobsBlock (total file) (block_at file 0)
 
--- refusal 7: "lowest bad block"
-abbrev pub Judged : List ℕ → ℕ → Result Contents Refusal → Type 0
-Judged file w (Ok c) = ReadFor file w (good c.sheet c.rows)
+-- the rows, or refusal 7: "lowest bad block"
+abbrev pub Judged : List ℕ → ℕ → Result Rows Refusal → Type 0
+Judged file w (Ok rows) = (σ : Sheet) × ReadFor file w (good σ rows)
 Judged file w (Err e) = (b : ℕ) × (e ≡ BadBlock b) × ReadFor file w (bad b)

@@ -15,13 +15,6 @@ use form::block::{jobs_good, rows_follow, sheet_in};
 use state::jobs::JobSheet;
 use state::refusal::Refusal;
 
-// What the blocks read say: the jobs, and the rows.
-#[derive(Drop)]
-pub struct Contents<'a> {
-    pub sheet: JobSheet,
-    pub rows: Rows<'a>,
-}
-
 // A word past all others: for it the whole file is read.
 pub const PAST_ALL: u64 = 4294967296;
 
@@ -31,7 +24,7 @@ const FEWEST: usize = 2 * BLOCK;
 const MOST: usize = 128 * BLOCK;
 
 // Block b of a file.
-fn block_at(file: &[u8], b: usize) -> &[u8; BLOCK]
+pub fn block_at(file: &[u8], b: usize) -> &[u8; BLOCK]
     requires { (b < most_blocks) × (block_bytes * b + block_bytes ≤ length file.now) }
     ensures { result.now ≡ block_at file.now b }
 {
@@ -59,8 +52,8 @@ fn rows_good(file: &[u8], b: usize, total: usize, sheet: &JobSheet) -> bool
     rows_follow(block_at(file, b), b as u16, total as u16, last, sheet)
 }
 
-// The blocks of rows read for a word, where block 0 is good.
-fn rows_for(file: &[u8], word: u64) -> Result<Contents<'_>, Refusal>
+// The rows of the blocks read for a word, where block 0 is good.
+fn rows_for(file: &[u8], word: u64) -> Result<Rows<'_>, Refusal>
     requires { Opens file.now }
     ensures { Judged file.now word result }
 {
@@ -72,15 +65,14 @@ fn rows_for(file: &[u8], word: u64) -> Result<Contents<'_>, Refusal>
         }
         let rows = Rows::read(file, b);
         if word <= u64::from(rows.last_word()) {
-            return Ok(Contents { sheet, rows });
+            return Ok(rows);
         }
     }
-    let rows = Rows::of(file);
-    Ok(Contents { sheet, rows })
+    Ok(Rows::of(file))
 }
 
-// The blocks of a file read for a word: the first that is bad ends the reading, or the first that does not end below the word.
-pub fn read_for(file: &[u8], word: u64) -> Result<Contents<'_>, Refusal>
+// The rows of the blocks of a file read for a word: the first that is bad ends the reading, or the first that does not end below the word.
+pub fn read_for(file: &[u8], word: u64) -> Result<Rows<'_>, Refusal>
     ensures { Judged file.now word result }
 {
     if !opens(file) {

@@ -1,13 +1,18 @@
 // How long a job's start can wait: A + D − W − now, below zero where it is too late to be sure.
-ghost use Rattle.std.specs.Prelude.{◌≡◌, ◌≤◌, ◌+◌};
+ghost use Rattle.std.specs.Prelude.{◌≡◌, ◌≤◌, ◌+◌, List};
 ghost use Rattle.plant.specs.Reflect.{Is};
-ghost use Rattle.sheet.specs.Model.{Good};
+ghost use Rattle.sheet.specs.Model.{Sheet};
+ghost use Rattle.sheet.specs.Table.{Entry};
 ghost use Rattle.state.specs.Statuses.{number_of};
-ghost use Rattle.table.specs.Reading.{good};
-ghost use Rattle.table.specs.Replies.{IsLeewayReplyOf, ticks_left, leeway_reply_of, leeway_reply};
+ghost use Rattle.table.specs.Reading.{good, Says};
+ghost use Rattle.table.specs.Places.{GoodFile, IsJob};
+ghost use Rattle.table.specs.Replies.{Answers, IsLeewayReplyOf, ticks_left, leeway_reply_of, leeway_reply};
 ghost use Rattle.table.specs.Read.{reading};
 
-use crate::judge::{Contents, PAST_ALL, read_for};
+use crate::judge::{PAST_ALL, block_at, read_for};
+use crate::place::Rows;
+use blocks::sizes::{HEADER, SLOT};
+use form::block::job_at;
 use sheet::Job;
 use state::bits::status_in;
 use state::refusal::Refusal;
@@ -57,30 +62,44 @@ fn was_started(status: Status) -> bool
     status == Status::Running || status == Status::Done
 }
 
-// The leeway of a job in a state, of a sheet of good form and these rows. The job is asked for first, then the row, then the job's status.
-fn leeway_in(contents: &Contents, word: u32, job: u32) -> Result<i32, Refusal>
-    requires { Good contents.now.sheet }
-    ensures { leeway_reply_of result ≡ leeway_reply word job (good contents.now.sheet contents.now.rows) }
+// The job of a number from 1, in a good file.
+fn job_in(file: &[u8], job: u32) -> Option<Job>
+    requires { GoodFile file.now }
+    ensures { (σ : Sheet) (rows : List Entry) → Says file.now (good σ rows) → IsJob σ job result }
 {
-    let jobs = contents.sheet.jobs();
-    if job < 1 || jobs.len() < job as usize {
-        return Err(Refusal::NoJob);
+    let first = block_at(file, 0);
+    if job < 1 {
+        return None;
     }
-    let Some(_) = contents.rows.find(word) else {
+    if u32::from(first[3]) < job {
+        return None;
+    }
+    Some(job_at(first, HEADER + SLOT * (job - 1) as usize))
+}
+
+// The leeway of a job in a state, in a good file of these rows. The job is asked for first, then the row, then the job's status.
+fn leeway_in(file: &[u8], rows: &Rows, word: u32, job: u32) -> Result<i32, Refusal>
+    requires { (σ : Sheet) × Says file.now (good σ rows.now) }
+    ensures { Answers file.now (leeway_reply word job) (leeway_reply_of result) }
+{
+    let Some(asked) = job_in(file, job) else {
+        return Err(Refusal::NoJob);
+    };
+    let Some(_) = rows.find(word) else {
         return Err(Refusal::NoRow);
     };
     if was_started(status_in(word, job as u8)) {
         return Err(Refusal::Started);
     }
-    Ok(left(jobs[(job - 1) as usize], (word >> 24) as u8))
+    Ok(left(asked, (word >> 24) as u8))
 }
 
 // The same of any bytes: the whole file is read first.
 fn leeway_of(file: &[u8], word: u32, job: u32) -> Result<i32, Refusal>
     ensures { leeway_reply_of result ≡ leeway_reply word job (reading file.now) }
 {
-    let contents = read_for(file, PAST_ALL)?;
-    leeway_in(&contents, word, job)
+    let rows = read_for(file, PAST_ALL)?;
+    leeway_in(file, &rows, word, job)
 }
 
 // The leeway of a job in a state, of any bytes.

@@ -37,8 +37,8 @@ returns-then-word-from c =
     _ _ sheet c.rows_good.ensures c.if-not-rows_good.false in
     let rows = c.read-rows.ensures _ _ r.1 in
     let last = ap last_word rows in
-    same_said sheet rows
-    (next_stops c.args.file.now c.args.word c.requires.0 c.loop-b.b c.loop-b.invariant c.loop-b-test.true r.0 r.1 (omega arith))
+    (_, same_said refl rows
+    (next_stops c.args.file.now c.args.word c.requires.0 c.loop-b.b c.loop-b.invariant c.loop-b-test.true r.0 r.1 (omega arith)))
 
 pub loop-b-preserved : goal.loop-b-preserved
 loop-b-preserved c =
@@ -48,13 +48,12 @@ loop-b-preserved c =
     let last = ap last_word (c.read-rows.ensures _ _ r.1) in
     next_past c.args.file.now c.args.word c.requires.0 c.loop-b.b c.loop-b.invariant c.loop-b-test.true r.0 r.1 (omega arith)
 
-pub of-rows-requires : goal.of-rows-requires
-of-rows-requires c =
+pub of-requires : goal.of-requires
+of-requires c =
     let r = all_read c.args.file.now c.args.word c.requires.0 c.loop-b.b c.loop-b.invariant (omega arith) in
     (jobs_in (block_at c.args.file.now 0), c.loop-b.invariant.0.1, (c.requires.0, r))
 
 pub returns : goal.returns
 returns c =
-    let sheet = c.sheet_in-sheet.ensures ∙ ap jobs_in c.block_at.ensures in
     let r = all_read c.args.file.now c.args.word c.requires.0 c.loop-b.b c.loop-b.invariant (omega arith) in
-    same_said sheet (c.of-rows.ensures _ _ (c.requires.0, r)) (past_last c.args.file.now c.args.word c.requires.0 c.loop-b.b c.loop-b.invariant (omega arith))
+    (_, same_said refl (c.of.ensures _ _ (c.requires.0, r)) (past_last c.args.file.now c.args.word c.requires.0 c.loop-b.b c.loop-b.invariant (omega arith)))
