@@ -1,7 +1,6 @@
 -- Rows in their places in a file, and what it is to find one.
 use Rattle.std.specs.Prelude.{ℕ, ◌+◌, ◌*◌, ◌/◌, ◌%◌, ◌≤◌, ◌<◌, ◌≡◌, ◌≢◌, List, length, Option, None, Some}
-use Rattle.sheet.specs.declared.Job.{Job}
-use Rattle.sheet.specs.Model.{Sheet, Names, job}
+use Rattle.sheet.specs.Model.{Sheet}
 use Rattle.sheet.specs.Table.{Entry, at}
 use Rattle.blocks.specs.Sizes.{block_bytes, block_slots, slot_bytes, most_rows}
 use Rattle.blocks.specs.Bytes.{u32_at}
@@ -35,8 +34,3 @@ pub record Placed (file : List ℕ) (n : ℕ) : Type 0 where
 abbrev pub Finds : List Entry → ℕ → Option ℕ → Type 0
 Finds rows w None = (i : ℕ) → i < length rows → (at rows i).word ≢ w
 Finds rows w (Some i) = (i < length rows) × ((at rows i).word ≡ w)
-
--- no job has the number, or this is the job
-abbrev pub IsJob : Sheet → ℕ → Option Job → Type 0
-IsJob σ k None = ¬ (Names σ k)
-IsJob σ k (Some j) = Names σ k × (j ≡ job σ k)

@@ -1,11 +1,11 @@
 // How long a job's start can wait: A + D − W − now, below zero where it is too late to be sure.
 ghost use Rattle.std.specs.Prelude.{◌≡◌, ◌≤◌, ◌+◌, List};
 ghost use Rattle.plant.specs.Reflect.{Is};
-ghost use Rattle.sheet.specs.Model.{Sheet};
+ghost use Rattle.sheet.specs.Model.{Sheet, Names, job as job_number};
 ghost use Rattle.sheet.specs.Table.{Entry};
 ghost use Rattle.state.specs.Statuses.{number_of};
 ghost use Rattle.table.specs.Reading.{good, Says};
-ghost use Rattle.table.specs.Places.{GoodFile, IsJob};
+ghost use Rattle.table.specs.Places.{GoodFile};
 ghost use Rattle.table.specs.Replies.{Answers, IsLeewayReplyOf, ticks_left, leeway_reply_of, leeway_reply};
 ghost use Rattle.table.specs.Read.{reading};
 
@@ -62,19 +62,20 @@ fn was_started(status: Status) -> bool
     status == Status::Running || status == Status::Done
 }
 
-// The job of a number from 1, in a good file.
-fn job_in(file: &[u8], job: u32) -> Option<Job>
+// Whether a good file has a job of this number.
+fn has_job(file: &[u8], job: u32) -> bool
     requires { GoodFile file.now }
-    ensures { (σ : Sheet) (rows : List Entry) → Says file.now (good σ rows) → IsJob σ job result }
+    ensures { (σ : Sheet) (rows : List Entry) → Says file.now (good σ rows) → Is result (Names σ job) }
 {
-    let first = block_at(file, 0);
-    if job < 1 {
-        return None;
-    }
-    if u32::from(first[3]) < job {
-        return None;
-    }
-    Some(job_at(first, HEADER + SLOT * (job - 1) as usize))
+    1 <= job && job <= u32::from(file[3])
+}
+
+// That job.
+fn job_of(file: &[u8], job: u32) -> Job
+    requires { (σ : Sheet) × (rows : List Entry) × Says file.now (good σ rows) × Names σ job }
+    ensures { (σ : Sheet) (rows : List Entry) → Says file.now (good σ rows) → Names σ job → result ≡ job_number σ job }
+{
+    job_at(block_at(file, 0), HEADER + SLOT * (job - 1) as usize)
 }
 
 // The leeway of a job in a state, in a good file of these rows. The job is asked for first, then the row, then the job's status.
@@ -82,16 +83,16 @@ fn leeway_in(file: &[u8], rows: &Rows, word: u32, job: u32) -> Result<i32, Refus
     requires { (σ : Sheet) × Says file.now (good σ rows.now) }
     ensures { Answers file.now (leeway_reply word job) (leeway_reply_of result) }
 {
-    let Some(asked) = job_in(file, job) else {
+    if !has_job(file, job) {
         return Err(Refusal::NoJob);
-    };
+    }
     let Some(_) = rows.find(word) else {
         return Err(Refusal::NoRow);
     };
     if was_started(status_in(word, job as u8)) {
         return Err(Refusal::Started);
     }
-    Ok(left(asked, (word >> 24) as u8))
+    Ok(left(job_of(file, job), (word >> 24) as u8))
 }
 
 // The same of any bytes: the whole file is read first.
