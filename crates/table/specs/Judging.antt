@@ -1,10 +1,11 @@
 -- What the reading of a file's blocks for a word answers: their rows, or the block that is bad.
-use Rattle.std.specs.Prelude.{ℕ, ◌≡◌, List, Result, Ok, Err}
+use Rattle.std.specs.Prelude.{ℕ, ◌≤◌, ◌≡◌, List, Result, Ok, Err}
 use Rattle.sheet.specs.Model.{Sheet}
+use Rattle.sheet.specs.Table.{Entry}
 use Rattle.state.specs.declared.refusal.Refusal.{Refusal}
 use Rattle.state.specs.declared.refusal.Refusal.TheVariants.{BadBlock}
 use Rattle.form.specs.BlockTest.{JobsBlock}
-use Rattle.table.specs.Reading.{total, block_at, Sized, good, bad}
+use Rattle.table.specs.Reading.{total, block_at, Sized, Reads, good, bad}
 use Rattle.table.specs.ReadFor.{ReadFor}
 use Rattle.table.specs.declared.place.Rows.{Rows}
 
@@ -12,7 +13,12 @@ use Rattle.table.specs.declared.place.Rows.{Rows}
 abbrev pub Opens : List ℕ → Type 0
 Opens file = Sized file × JobsBlock (total file) (block_at file 0)
 
--- the rows, or refusal 7: "lowest bad block"
+-- the last block read, or refusal 7: "lowest bad block"
+abbrev pub JudgedTo : List ℕ → ℕ → Result ℕ Refusal → Type 0
+JudgedTo file w (Ok b) = (1 ≤ b) × (σ : Sheet) × (rows : List Entry) × Reads file b σ rows × ReadFor file w (good σ rows)
+JudgedTo file w (Err e) = (b : ℕ) × (e ≡ BadBlock b) × ReadFor file w (bad b)
+
+-- the rows of the blocks read, or refusal 7
 abbrev pub Judged : List ℕ → ℕ → Result Rows Refusal → Type 0
 Judged file w (Ok rows) = (σ : Sheet) × ReadFor file w (good σ rows)
 Judged file w (Err e) = (b : ℕ) × (e ≡ BadBlock b) × ReadFor file w (bad b)

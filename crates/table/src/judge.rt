@@ -5,7 +5,7 @@ ghost use Rattle.blocks.specs.Sizes.{block_bytes, most_blocks};
 ghost use Rattle.form.specs.BlockTest.{RowsBlock};
 ghost use Rattle.table.specs.Reading.{block_at};
 ghost use Rattle.table.specs.BlockRight.{before};
-ghost use Rattle.table.specs.Judging.{Opens, Judged};
+ghost use Rattle.table.specs.Judging.{Opens, JudgedTo, Judged};
 
 use crate::place::Rows;
 use blocks::block::as_block;
@@ -52,10 +52,10 @@ fn rows_good(file: &[u8], b: usize, total: usize, sheet: &JobSheet) -> bool
     rows_follow(block_at(file, b), b as u16, total as u16, last, sheet)
 }
 
-// The rows of the blocks read for a word, where block 0 is good.
-fn rows_for(file: &[u8], word: u64) -> Result<Rows<'_>, Refusal>
+// The last block read for a word, where block 0 is good: the first that does not end below the word, or the last of the file.
+fn last_after_first(file: &[u8], word: u64) -> Result<usize, Refusal>
     requires { Opens file.now }
-    ensures { Judged file.now word result }
+    ensures { JudgedTo file.now word result }
 {
     let total = file.len() / BLOCK;
     let sheet = sheet_in(block_at(file, 0));
@@ -63,20 +63,28 @@ fn rows_for(file: &[u8], word: u64) -> Result<Rows<'_>, Refusal>
         if !rows_good(file, b, total, &sheet) {
             return Err(Refusal::BadBlock(b as u32));
         }
-        let rows = Rows::read(file, b);
-        if word <= u64::from(rows.last_word()) {
-            return Ok(rows);
+        if word <= u64::from(Rows::read(file, b).last_word()) {
+            return Ok(b);
         }
     }
-    Ok(Rows::of(file))
+    Ok(total - 1)
 }
 
-// The rows of the blocks of a file read for a word: the first that is bad ends the reading, or the first that does not end below the word.
-pub fn read_for(file: &[u8], word: u64) -> Result<Rows<'_>, Refusal>
-    ensures { Judged file.now word result }
+// The last block of a file read for a word, or the first that is bad. On its own, so that its stack is gone when a row is looked up.
+#[inline(never)]
+fn last_block(file: &[u8], word: u64) -> Result<usize, Refusal>
+    ensures { JudgedTo file.now word result }
 {
     if !opens(file) {
         return Err(Refusal::BadBlock(0));
     }
-    rows_for(file, word)
+    last_after_first(file, word)
+}
+
+// The rows of the blocks of a file read for a word.
+pub fn read_for(file: &[u8], word: u64) -> Result<Rows<'_>, Refusal>
+    ensures { Judged file.now word result }
+{
+    let b = last_block(file, word)?;
+    Ok(Rows::read(file, b))
 }
