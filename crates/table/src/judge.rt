@@ -5,7 +5,7 @@ ghost use Rattle.blocks.specs.Sizes.{block_bytes, most_blocks};
 ghost use Rattle.form.specs.BlockTest.{RowsBlock};
 ghost use Rattle.table.specs.Reading.{block_at};
 ghost use Rattle.table.specs.BlockRight.{before};
-ghost use Rattle.table.specs.Judging.{Opens, JudgedTo, Judged};
+ghost use Rattle.table.specs.Judging.{Opens, JudgedTo, Judged, IsRefusalFor};
 
 use crate::place::Rows;
 use blocks::block::as_block;
@@ -14,6 +14,18 @@ use blocks::sizes::{BLOCK, HEADER, SLOT, SLOTS};
 use form::block::{jobs_good, rows_follow, sheet_in};
 use state::jobs::JobSheet;
 use state::refusal::Refusal;
+
+// The lowest bad block of a file.
+#[derive(Clone, Copy)]
+pub struct BadBlock(pub u32);
+
+impl From<BadBlock> for Refusal {
+    ghost from_gives = { IsRefusalFor };
+
+    fn from(bad: BadBlock) -> Refusal {
+        Refusal::BadBlock(bad.0)
+    }
+}
 
 // A word past all others: for it the whole file is read.
 pub const PAST_ALL: u64 = 4294967296;
@@ -24,7 +36,7 @@ const FEWEST: usize = 2 * BLOCK;
 const MOST: usize = 128 * BLOCK;
 
 // Block b of a file.
-pub fn block_at(file: &[u8], b: usize) -> &[u8; BLOCK]
+pub(crate) fn block_at(file: &[u8], b: usize) -> &[u8; BLOCK]
     requires { (b < most_blocks) × (block_bytes * b + block_bytes ≤ length file.now) }
     ensures { result.now ≡ block_at file.now b }
 {
@@ -53,7 +65,7 @@ fn rows_good(file: &[u8], b: usize, total: usize, sheet: &JobSheet) -> bool
 }
 
 // The last block read for a word, where block 0 is good: the first that does not end below the word, or the last of the file.
-fn last_after_first(file: &[u8], word: u64) -> Result<usize, Refusal>
+fn last_after_first(file: &[u8], word: u64) -> Result<u32, BadBlock>
     requires { Opens file.now }
     ensures { JudgedTo file.now word result }
 {
@@ -61,30 +73,30 @@ fn last_after_first(file: &[u8], word: u64) -> Result<usize, Refusal>
     let sheet = sheet_in(block_at(file, 0));
     for b in 1..total {
         if !rows_good(file, b, total, &sheet) {
-            return Err(Refusal::BadBlock(b as u32));
+            return Err(BadBlock(b as u32));
         }
         if word <= u64::from(Rows::read(file, b).last_word()) {
-            return Ok(b);
+            return Ok(b as u32);
         }
     }
-    Ok(total - 1)
+    Ok((total - 1) as u32)
 }
 
 // The last block of a file read for a word, or the first that is bad. On its own, so that its stack is gone when a row is looked up.
 #[inline(never)]
-fn last_block(file: &[u8], word: u64) -> Result<usize, Refusal>
+fn last_block(file: &[u8], word: u64) -> Result<u32, BadBlock>
     ensures { JudgedTo file.now word result }
 {
     if !opens(file) {
-        return Err(Refusal::BadBlock(0));
+        return Err(BadBlock(0));
     }
     last_after_first(file, word)
 }
 
 // The rows of the blocks of a file read for a word.
-pub fn read_for(file: &[u8], word: u64) -> Result<Rows<'_>, Refusal>
+pub fn read_for(file: &[u8], word: u64) -> Result<Rows<'_>, BadBlock>
     ensures { Judged file.now word result }
 {
     let b = last_block(file, word)?;
-    Ok(Rows::read(file, b))
+    Ok(Rows::read(file, b as usize))
 }

@@ -1,5 +1,5 @@
 -- The blocks passed end below the word; the next one is bad, ends the reading, or is passed too. Assumes nothing.
-use Rattle.std.proofs.Common.{length, refl, arith, ap, ◌∙◌}
+use Rattle.std.proofs.Common.{length, arith, ap, ◌∙◌}
 use Rattle.form.specs.BlockTest.{jobs_in}
 use Rattle.table.specs.Reading.{block_at}
 use Rattle.table.specs.ReadFor.{last_word}
@@ -13,7 +13,7 @@ pub returns-then-not-rows_good : goal.returns-then-not-rows_good
 returns-then-not-rows_good c =
     let sheet = c.sheet_in-sheet.ensures ∙ ap jobs_in c.block_at.ensures in
     let bad = block_bad c.args.file.now _ _ _ sheet c.rows_good.ensures c.if-not-rows_good.true in
-    (c.loop-b.b, refl, next_refused c.args.file.now c.args.word c.requires.0 c.loop-b.b c.loop-b.invariant c.loop-b-test.true bad)
+    next_refused c.args.file.now c.args.word c.requires.0 c.loop-b.b c.loop-b.invariant c.loop-b-test.true bad
 
 pub read-requires : goal.read-requires
 read-requires c =

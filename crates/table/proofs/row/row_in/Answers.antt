@@ -9,8 +9,7 @@ use Rattle.table.proofs.row.row_in.Goals as goal
 pub returns-in_err-rows : goal.returns-in_err-rows
 returns-in_err-rows c =
     let p = err_from_is_err_and c.from_residual.result c.from_residual.ensures.1 in
-    let e = c.in_err-rows.ensures in
-    (bad e.0, e.2, rw (p.1, p.2, e.1) refl)
+    (bad _, c.in_err-rows.ensures, rw (p.1, p.2) refl)
 
 pub returns-in-Some : goal.returns-in-Some
 returns-in-Some c =
