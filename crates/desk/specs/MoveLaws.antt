@@ -1,5 +1,5 @@
 -- What the code's tests of an event come to, and that an allowed tick keeps both clocks bytes. Assumes nothing.
-use Rattle.std.specs.Prelude.{ℕ, ◌-◌, ◌≤◌, ◌<◌, ◌≡◌, ◌≢◌, ◌⊎◌, Bool, true, false, List, length}
+use Rattle.std.specs.Prelude.{ℕ, ◌-◌, ◌≤◌, ◌<◌, ◌≡◌, ◌≢◌, ◌⊎◌, Bool, true, List, length}
 use Rattle.std.proofs.Common.{arith, sym, ap, subst, ◌∙◌, inl, inr}
 use Rattle.plant.specs.Plant.{tick, arrival, start, ending}
 use Rattle.plant.specs.Range.{In}
@@ -11,19 +11,19 @@ use Rattle.sheet.specs.ModelTests.{named, possible}
 use Rattle.sheet.specs.Table.{Entry, at}
 use Rattle.sheet.specs.Form.{InOrder, FinishedState, UnderWay, Fits, GoodRows}
 use Rattle.state.specs.Clocks.{Known, model}
-use Rattle.state.specs.EventByte.{kind_of}
+use Rattle.state.specs.EventByte.{event_in_rules}
 use Rattle.look.specs.LateLaws.{tick_fits}
 use Rattle.look.specs.Look.{look_of}
 use Rattle.look.specs.LookLaws.{Looks, looks}
 use Rattle.state.specs.Tell.{same_test, told_yes}
 use Rattle.state.specs.WordBack.{state_back}
 use Rattle.state.specs.declared.event.Event.{Event}
-use Rattle.state.specs.declared.event.Event.TheVariants.{Tick, Arrival, Start, Ending, Nothing}
+use Rattle.state.specs.declared.event.Event.TheVariants.{Tick, Arrival, Start, Ending}
 use Rattle.look.specs.declared.Look.{Look}
 use Rattle.state.specs.declared.word.State as by_value
 use Rattle.table.specs.Replies.{lookup}
 use Rattle.table.specs.declared.row.RowReply.{RowReply}
-use Rattle.desk.specs.Stepping.{state_in, on, names, allows}
+use Rattle.desk.specs.Stepping.{state_in, names, allows}
 use Rattle.desk.specs.Moving.{JobFits, FitsIn}
 use Rattle.desk.specs.StepLaws.{lookup_some}
 use Rattle.desk.specs.declared.desk.Desk.{Desk}
@@ -53,12 +53,11 @@ module _ (σ : Sheet) (q : State) (l : Look) (e : l ≡ look_of σ q) where
 in_eight : (σ : Sheet) (k : ℕ) → length σ ≤ 8 → named σ k ≡ true → In 8 k
 in_eight σ k few n = let w = told_yes (is_and (is_le 1 k) (is_le k (length σ))) n in (w.0, omega (arith, w.1))
 
-pub job_fits : (σ : Sheet) → length σ ≤ 8 → (e : Event) → on false (names σ) (kind_of e) ≡ true → JobFits e
+pub job_fits : (σ : Sheet) → length σ ≤ 8 → (e : Event) → names σ (event_in_rules e) ≡ true → JobFits e
 job_fits σ few Tick n = tt
 job_fits σ few (Arrival k) n = in_eight σ k few n
 job_fits σ few (Start k) n = in_eight σ k few n
 job_fits σ few (Ending k) n = in_eight σ k few n
-job_fits σ few Nothing n = tt
 
 -- a tick that is possible, with a code that is not 2, has code 1, which good form gives to no tick that leads to a late state
 module _
@@ -95,8 +94,8 @@ module _
         let r = lookup_some (word q) rows (ap (λ (x : RowReply). x.number) (sym f) ∙ z) in
         tick_open r.0 t.tick r.1 r.2 (ap (λ (x : RowReply). x.tick) (f ∙ r.3)) (told_yes (is_possible σ q tick) p) (told_yes (is_not (is_eq t.tick 2)) a)
 
-    pub fits_in : (e : Event) (s : by_value.State) → model s ≡ q → on false (names σ) (kind_of e) ≡ true
-        → on false (possible σ q) (kind_of e) ≡ true → on false (allows t.starts t.tick) (kind_of e) ≡ true → FitsIn s e
+    pub fits_in : (e : Event) (s : by_value.State) → model s ≡ q → names σ (event_in_rules e) ≡ true
+        → possible σ q (event_in_rules e) ≡ true → allows t.starts t.tick (event_in_rules e) ≡ true → FitsIn s e
     fits_in Tick s m n p a =
         let w = tick_bytes p a in
         let b : s.now ≡ d.now = ap (λ (x : State). x.now) m in
@@ -105,4 +104,3 @@ module _
     fits_in (Arrival k) s m n p a = in_eight σ k sheet.few_jobs n
     fits_in (Start k) s m n p a = in_eight σ k sheet.few_jobs n
     fits_in (Ending k) s m n p a = in_eight σ k sheet.few_jobs n
-    fits_in Nothing s m n p a = tt

@@ -1,11 +1,13 @@
 -- What step replies to what a file says, and the desk after it (01, "Calls, numbers and order").
-use Rattle.std.specs.Prelude.{ℕ, ◌-◌, ◌/◌, ◌%◌, ◌^◌, Bool, true, cond, not, ◌&&◌, List, [], ◌∷◌, eqb, leb}
+use Rattle.std.specs.Prelude.{ℕ, ◌-◌, ◌/◌, ◌%◌, ◌^◌, Bool, true, cond, not, ◌&&◌, List, [], ◌∷◌, eqb, leb, Result, Ok, Err}
 use Rattle.std.proofs.Math.Option.{Option, none, some}
 use Rattle.plant.specs.Plant.{Event, tick, arrival, start, ending}
 use Rattle.sheet.specs.Model.{Sheet, State, next, word}
 use Rattle.sheet.specs.ModelTests.{named, possible}
 use Rattle.sheet.specs.Table.{Entry}
 use Rattle.state.specs.EventByte.{event_of, kind_of}
+use Rattle.state.specs.Refusals.{refusal_number, refusal_detail}
+use Rattle.state.specs.declared.refusal.Refusal.{Refusal}
 use Rattle.table.specs.Reading.{Reading, good, bad}
 use Rattle.table.specs.Replies.{lookup}
 use Rattle.table.specs.declared.row.RowReply.{RowReply}
@@ -70,3 +72,8 @@ asked σ rows d e =
 abbrev pub step_reply : Desk → (byte : ℕ) → Reading → Stepped
 step_reply d x (bad b) = stays 7 b d
 step_reply d x (good σ rows) = on (stays 9 0 d) (asked σ rows d) (kind_of (event_of x))
+
+-- the desk after the event, or a refusal, as a reply
+abbrev pub step_reply_of : Desk → Result Desk Refusal → Stepped
+step_reply_of d (Ok e) = record { reply = record { number = 0; detail = 0 }; desk = e }
+step_reply_of d (Err e) = stays (refusal_number e) (refusal_detail e) d

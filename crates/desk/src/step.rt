@@ -1,20 +1,21 @@
 // Step: 7, 9, 8, 10, 11 in this order, or the event taken and the desk after it.
-ghost use Rattle.std.specs.Prelude.{◌≡◌, List};
-ghost use Rattle.sheet.specs.Model.{Sheet, word};
-ghost use Rattle.sheet.specs.Table.{Entry};
-ghost use Rattle.state.specs.Clocks.{Known};
+ghost use Rattle.std.specs.Prelude.{◌≡◌};
+ghost use Rattle.sheet.specs.Model.{Good};
+ghost use Rattle.sheet.specs.Form.{GoodRows};
 ghost use Rattle.table.specs.Reading.{good};
 ghost use Rattle.table.specs.Read.{reading};
-ghost use Rattle.table.specs.Replies.{lookup};
-ghost use Rattle.desk.specs.Stepping.{state_in, stays, step_reply};
+ghost use Rattle.desk.specs.Stepping.{step_reply, step_reply_of};
+ghost use Rattle.desk.specs.Stages.{Named, Standing, MovesOn, Moved};
 
-use crate::desk::{Desk, desk_of, known, state_in, word_in};
+use crate::desk::Desk;
 use crate::moves::{after, allowed, may, names};
-use blocks::sizes::BLOCK;
-use form::block::jobs_of;
-use look::look_at;
-use state::event::event_of;
-use table::row::{RowReply, row};
+use blocks::row::Row;
+use state::event::Event;
+use state::jobs::JobSheet;
+use state::refusal::Refusal;
+use state::word::State;
+use table::judge::{Contents, PAST_ALL, read_for};
+use table::place::Rows;
 
 // A step's answer: number and detail. Its only result is the desk.
 #[repr(C)]
@@ -31,62 +32,80 @@ pub struct Stepped {
     pub desk: Desk,
 }
 
-// A refusal: the desk as it stood.
-fn refused(number: u32, detail: u32, desk: Desk) -> Stepped
-    ensures { result ≡ stays number detail desk }
+// The event of a byte, of a job of the sheet.
+fn named(sheet: &JobSheet, byte: u8) -> Result<Event, Refusal>
+    ensures { Named sheet.now byte result }
 {
-    let reply = StepReply {
-        number: number,
-        detail: detail,
-    };
-    Stepped {
-        reply: reply,
-        desk: desk,
+    match Event::try_from(byte) {
+        Ok(event) if names(sheet, event) => Ok(event),
+        _ => Err(Refusal::NoJob),
     }
 }
 
-// The step in a good file, of which `told` is the row of the desk's word, or its refusal.
-fn step_in(file: &[u8], told: RowReply, desk: Desk, event: u8) -> Stepped
-    requires { (σ : Sheet) × (rows : List Entry) × (reading file.now ≡ good σ rows) × (Known desk.statuses → told ≡ lookup (word (state_in desk)) rows) }
-    ensures { result ≡ step_reply desk event (reading file.now) }
+// The state on the desk, with its row.
+fn standing(rows: &Rows<'_>, desk: Desk) -> Result<(State, Row), Refusal>
+    ensures { Standing rows.now desk result }
 {
-    let n = file[3];
-    let e = event_of(event);
-    if !names(e, n) {
-        return refused(9, 0, desk);
-    }
-    if !known(desk) {
-        return refused(8, 0, desk);
-    }
-    if told.number != 0 {
-        return refused(8, 0, desk);
-    }
-    let jobs = jobs_of(&file[..BLOCK]);
-    let s = state_in(desk);
-    if !may(look_at(jobs, n as usize, s), e) {
-        return refused(10, 0, desk);
-    }
-    if !allowed(told.starts, told.tick, e) {
-        return refused(11, 0, desk);
-    }
-    let next = desk_of(after(s, n, e));
-    let reply = StepReply {
-        number: 0,
-        detail: 0,
+    let Ok(s) = State::try_from(desk) else {
+        return Err(Refusal::NoRow);
     };
-    Stepped {
-        reply: reply,
-        desk: next,
+    match rows.find(s.word()) {
+        Some(i) => Ok((s, rows.row(i))),
+        None => Err(Refusal::NoRow),
     }
 }
 
-// The step by value, of any bytes: the file is judged once, with the row of the desk's word.
+// The state that the event leads to, where it is possible and its row allows it.
+fn moved(sheet: &JobSheet, s: State, row: Row, event: Event) -> Result<State, Refusal>
+    requires { MovesOn sheet.now s row event }
+    ensures { Moved sheet.now s row event result }
+{
+    if !may(sheet, s, event) {
+        return Err(Refusal::NotPossible);
+    }
+    if !allowed(row, event) {
+        return Err(Refusal::NotAllowed);
+    }
+    Ok(after(sheet, s, event))
+}
+
+// The step in a good file that says these jobs and rows.
+fn step_in(contents: &Contents<'_>, desk: Desk, byte: u8) -> Result<Desk, Refusal>
+    requires { Good contents.now.sheet × GoodRows contents.now.sheet contents.now.rows }
+    ensures { step_reply_of desk result ≡ step_reply desk byte (good contents.now.sheet contents.now.rows) }
+{
+    let event = named(&contents.sheet, byte)?;
+    let (s, row) = standing(&contents.rows, desk)?;
+    let next = moved(&contents.sheet, s, row, event)?;
+    Ok(Desk::from(next))
+}
+
+// The desk after the event, of any bytes: the whole file is read first.
+fn step_of(file: &[u8], desk: Desk, byte: u8) -> Result<Desk, Refusal>
+    ensures { step_reply_of desk result ≡ step_reply desk byte (reading file.now) }
+{
+    let contents = read_for(file, PAST_ALL)?;
+    step_in(&contents, desk, byte)
+}
+
+// The step by value, of any bytes. A refused one leaves the desk as it stood.
 pub fn step(file: &[u8], desk: Desk, event: u8) -> Stepped
     ensures { result ≡ step_reply desk event (reading file.now) }
 {
-    let told = row(file, word_in(desk));
-    if told.number == 7 {
-        return refused(7, told.detail, desk);
+    match step_of(file, desk, event) {
+        Ok(next) => Stepped {
+            reply: StepReply {
+                number: 0,
+                detail: 0,
+            },
+            desk: next,
+        },
+        Err(refusal) => Stepped {
+            reply: StepReply {
+                number: refusal.number(),
+                detail: refusal.detail(),
+            },
+            desk,
+        },
     }
-    step_in(file, told, desk, event)
 }
