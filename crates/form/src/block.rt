@@ -1,7 +1,7 @@
 // One block of a file: good as block 0, or as a block of rows after the block before.
-ghost use Rattle.std.specs.Prelude.{◌≡◌, ◌↔◌, ℕ, ◌≤◌, ◌<◌, ◌+◌, ◌-◌, ◌*◌, length, get_or, IsTrue, EachIndex, slice_index};
+ghost use Rattle.std.specs.Prelude.{◌≡◌, ◌↔◌, ℕ, ◌≤◌, ◌<◌, ◌+◌, ◌-◌, ◌*◌, get_or, IsTrue, EachIndex, slice_index};
 ghost use Rattle.plant.specs.Reflect.{Is};
-ghost use Rattle.blocks.specs.Sizes.{header_bytes, block_slots, slot_bytes, most_jobs, most_blocks};
+ghost use Rattle.blocks.specs.Sizes.{block_bytes, header_bytes, block_slots, slot_bytes, most_jobs, most_blocks};
 ghost use Rattle.blocks.specs.Bytes.{u32_at};
 ghost use Rattle.blocks.specs.Fields.{Framed, slot_at, job_from};
 ghost use Rattle.form.specs.BlockTest.{Zeros, Headed, JobsBlock, SlotGood, CountFits, Follows, RowsBlock, jobs_in};
@@ -52,8 +52,8 @@ fn framed(block: &[u8; BLOCK], n: u8, used: u8, k: u16, total: u16) -> bool
 }
 
 // The job whose four numbers stand at a place.
-fn job_at(block: &[u8; BLOCK], at: usize) -> Job
-    requires { at + 8 ≤ length block.now }
+pub fn job_at(block: &[u8; BLOCK], at: usize) -> Job
+    requires { at + slot_bytes ≤ block_bytes }
     ensures { result ≡ job_from block.now at }
 {
     Job {

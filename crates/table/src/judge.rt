@@ -5,7 +5,7 @@ ghost use Rattle.blocks.specs.Sizes.{block_bytes, most_blocks};
 ghost use Rattle.form.specs.BlockTest.{RowsBlock};
 ghost use Rattle.table.specs.Reading.{block_at};
 ghost use Rattle.table.specs.BlockRight.{before};
-ghost use Rattle.table.specs.Judging.{Opens, Judged};
+ghost use Rattle.table.specs.Judging.{Opens, JudgedTo, Judged, IsRefusalFor};
 
 use crate::place::Rows;
 use blocks::block::as_block;
@@ -15,11 +15,16 @@ use form::block::{jobs_good, rows_follow, sheet_in};
 use state::jobs::JobSheet;
 use state::refusal::Refusal;
 
-// What the blocks read say: the jobs, and the rows.
-#[derive(Drop)]
-pub struct Contents<'a> {
-    pub sheet: JobSheet,
-    pub rows: Rows<'a>,
+// The lowest bad block of a file.
+#[derive(Clone, Copy)]
+pub struct BadBlock(pub u32);
+
+impl From<BadBlock> for Refusal {
+    ghost from_gives = { IsRefusalFor };
+
+    fn from(bad: BadBlock) -> Refusal {
+        Refusal::BadBlock(bad.0)
+    }
 }
 
 // A word past all others: for it the whole file is read.
@@ -31,7 +36,7 @@ const FEWEST: usize = 2 * BLOCK;
 const MOST: usize = 128 * BLOCK;
 
 // Block b of a file.
-fn block_at(file: &[u8], b: usize) -> &[u8; BLOCK]
+pub(crate) fn block_at(file: &[u8], b: usize) -> &[u8; BLOCK]
     requires { (b < most_blocks) × (block_bytes * b + block_bytes ≤ length file.now) }
     ensures { result.now ≡ block_at file.now b }
 {
@@ -59,32 +64,39 @@ fn rows_good(file: &[u8], b: usize, total: usize, sheet: &JobSheet) -> bool
     rows_follow(block_at(file, b), b as u16, total as u16, last, sheet)
 }
 
-// The blocks of rows read for a word, where block 0 is good.
-fn rows_for(file: &[u8], word: u64) -> Result<Contents<'_>, Refusal>
+// The last block read for a word, where block 0 is good: the first that does not end below the word, or the last of the file.
+fn last_after_first(file: &[u8], word: u64) -> Result<u32, BadBlock>
     requires { Opens file.now }
-    ensures { Judged file.now word result }
+    ensures { JudgedTo file.now word result }
 {
     let total = file.len() / BLOCK;
     let sheet = sheet_in(block_at(file, 0));
     for b in 1..total {
         if !rows_good(file, b, total, &sheet) {
-            return Err(Refusal::BadBlock(b as u32));
+            return Err(BadBlock(b as u32));
         }
-        let rows = Rows::read(file, b);
-        if word <= u64::from(rows.last_word()) {
-            return Ok(Contents { sheet, rows });
+        if word <= u64::from(Rows::read(file, b).last_word()) {
+            return Ok(b as u32);
         }
     }
-    let rows = Rows::of(file);
-    Ok(Contents { sheet, rows })
+    Ok((total - 1) as u32)
 }
 
-// The blocks of a file read for a word: the first that is bad ends the reading, or the first that does not end below the word.
-pub fn read_for(file: &[u8], word: u64) -> Result<Contents<'_>, Refusal>
-    ensures { Judged file.now word result }
+// The last block of a file read for a word, or the first that is bad. On its own, so that its stack is gone when a row is looked up.
+#[inline(never)]
+fn last_block(file: &[u8], word: u64) -> Result<u32, BadBlock>
+    ensures { JudgedTo file.now word result }
 {
     if !opens(file) {
-        return Err(Refusal::BadBlock(0));
+        return Err(BadBlock(0));
     }
-    rows_for(file, word)
+    last_after_first(file, word)
+}
+
+// The rows of the blocks of a file read for a word.
+pub fn read_for(file: &[u8], word: u64) -> Result<Rows<'_>, BadBlock>
+    ensures { Judged file.now word result }
+{
+    let b = last_block(file, word)?;
+    Ok(Rows::read(file, b as usize))
 }

@@ -1,13 +1,18 @@
 // How long a job's start can wait: A + D − W − now, below zero where it is too late to be sure.
-ghost use Rattle.std.specs.Prelude.{◌≡◌, ◌≤◌, ◌+◌};
+ghost use Rattle.std.specs.Prelude.{◌≡◌, ◌≤◌, ◌+◌, List};
 ghost use Rattle.plant.specs.Reflect.{Is};
-ghost use Rattle.sheet.specs.Model.{Good};
+ghost use Rattle.sheet.specs.Model.{Sheet, Names, job as job_number};
+ghost use Rattle.sheet.specs.Table.{Entry};
 ghost use Rattle.state.specs.Statuses.{number_of};
-ghost use Rattle.table.specs.Reading.{good};
-ghost use Rattle.table.specs.Replies.{IsLeewayReplyOf, ticks_left, leeway_reply_of, leeway_reply};
+ghost use Rattle.table.specs.Reading.{good, Says};
+ghost use Rattle.table.specs.Places.{GoodFile};
+ghost use Rattle.table.specs.Replies.{Answers, IsLeewayReplyOf, ticks_left, leeway_reply_of, leeway_reply};
 ghost use Rattle.table.specs.Read.{reading};
 
-use crate::judge::{Contents, PAST_ALL, read_for};
+use crate::judge::{PAST_ALL, block_at, read_for};
+use crate::place::Rows;
+use blocks::sizes::{HEADER, SLOT};
+use form::block::job_at;
 use sheet::Job;
 use state::bits::status_in;
 use state::refusal::Refusal;
@@ -57,30 +62,45 @@ fn was_started(status: Status) -> bool
     status == Status::Running || status == Status::Done
 }
 
-// The leeway of a job in a state, of a sheet of good form and these rows. The job is asked for first, then the row, then the job's status.
-fn leeway_in(contents: &Contents, word: u32, job: u32) -> Result<i32, Refusal>
-    requires { Good contents.now.sheet }
-    ensures { leeway_reply_of result ≡ leeway_reply word job (good contents.now.sheet contents.now.rows) }
+// Whether a good file has a job of this number.
+fn has_job(file: &[u8], job: u32) -> bool
+    requires { GoodFile file.now }
+    ensures { (σ : Sheet) (rows : List Entry) → Says file.now (good σ rows) → Is result (Names σ job) }
 {
-    let jobs = contents.sheet.jobs();
-    if job < 1 || jobs.len() < job as usize {
+    1 <= job && job <= u32::from(file[3])
+}
+
+// That job.
+fn job_of(file: &[u8], job: u32) -> Job
+    requires { (σ : Sheet) × (rows : List Entry) × Says file.now (good σ rows) × Names σ job }
+    ensures { (σ : Sheet) (rows : List Entry) → Says file.now (good σ rows) → Names σ job → result ≡ job_number σ job }
+{
+    job_at(block_at(file, 0), HEADER + SLOT * (job - 1) as usize)
+}
+
+// The leeway of a job in a state, in a good file of these rows. The job is asked for first, then the row, then the job's status.
+fn leeway_in(file: &[u8], rows: &Rows, word: u32, job: u32) -> Result<i32, Refusal>
+    requires { (σ : Sheet) × Says file.now (good σ rows.now) }
+    ensures { Answers file.now (leeway_reply word job) (leeway_reply_of result) }
+{
+    if !has_job(file, job) {
         return Err(Refusal::NoJob);
     }
-    let Some(_) = contents.rows.find(word) else {
+    let Some(_) = rows.find(word) else {
         return Err(Refusal::NoRow);
     };
     if was_started(status_in(word, job as u8)) {
         return Err(Refusal::Started);
     }
-    Ok(left(jobs[(job - 1) as usize], (word >> 24) as u8))
+    Ok(left(job_of(file, job), (word >> 24) as u8))
 }
 
 // The same of any bytes: the whole file is read first.
 fn leeway_of(file: &[u8], word: u32, job: u32) -> Result<i32, Refusal>
     ensures { leeway_reply_of result ≡ leeway_reply word job (reading file.now) }
 {
-    let contents = read_for(file, PAST_ALL)?;
-    leeway_in(&contents, word, job)
+    let rows = read_for(file, PAST_ALL)?;
+    leeway_in(file, &rows, word, job)
 }
 
 // The leeway of a job in a state, of any bytes.

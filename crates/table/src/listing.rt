@@ -1,5 +1,6 @@
 // All jobs, the count of rows, and one row.
 ghost use Rattle.std.specs.Prelude.{◌≡◌, ◌≤◌, ◌+◌, ◌*◌, length};
+ghost use Rattle.sheet.specs.Model.{Sheet};
 ghost use Rattle.blocks.specs.Sizes.{block_bytes, header_bytes};
 ghost use Rattle.blocks.specs.Bytes.{u16_at};
 ghost use Rattle.blocks.specs.Tab.{tab};
@@ -7,7 +8,8 @@ ghost use Rattle.table.specs.Reading.{good, Says};
 ghost use Rattle.table.specs.Replies.{Answers, IsListingReplyOf, listing_reply_of, listing_reply};
 ghost use Rattle.table.specs.Read.{reading};
 
-use crate::judge::{Contents, PAST_ALL, read_for};
+use crate::judge::{PAST_ALL, read_for};
+use crate::place::Rows;
 use blocks::numbers::read16;
 use blocks::sizes::HEADER;
 use state::refusal::Refusal;
@@ -59,20 +61,20 @@ fn numbers_of(file: &[u8]) -> [u16; 32]
     numbers
 }
 
-// The row of a number from 1, in a good file that says these jobs and rows.
-fn listing_in(file: &[u8], contents: &Contents, row_number: u32) -> Result<ListingReply, Refusal>
-    requires { Says file.now (good contents.now.sheet contents.now.rows) }
+// The row of a number from 1, in a good file of these rows.
+fn listing_in(file: &[u8], rows: &Rows, row_number: u32) -> Result<ListingReply, Refusal>
+    requires { (σ : Sheet) × Says file.now (good σ rows.now) }
     ensures { Answers file.now (listing_reply row_number) (listing_reply_of result) }
 {
-    let count = contents.rows.count() as u32;
+    let count = rows.count() as u32;
     if row_number < 1 || count < row_number {
         return Err(Refusal::NoRow);
     }
-    let row = contents.rows.row((row_number - 1) as usize);
+    let row = rows.row((row_number - 1) as usize);
     Ok(ListingReply {
         number: 0,
         detail: 0,
-        jobs: contents.sheet.count() as u32,
+        jobs: u32::from(file[3]),
         rows: count,
         numbers: numbers_of(file),
         word: row.word,
@@ -85,8 +87,8 @@ fn listing_in(file: &[u8], contents: &Contents, row_number: u32) -> Result<Listi
 fn listed(file: &[u8], row_number: u32) -> Result<ListingReply, Refusal>
     ensures { listing_reply_of result ≡ listing_reply row_number (reading file.now) }
 {
-    let contents = read_for(file, PAST_ALL)?;
-    listing_in(file, &contents, row_number)
+    let rows = read_for(file, PAST_ALL)?;
+    listing_in(file, &rows, row_number)
 }
 
 // All jobs, the count of rows and the row of a number from 1, of any bytes.

@@ -44,7 +44,7 @@ impl From<Result<Row, Refusal>> for RowReply {
 fn row_in(file: &[u8], until: u64, word: u32) -> Result<Row, Refusal>
     ensures { AnswersFor file.now until (row_reply word) (row_reply_of result) }
 {
-    let rows = read_for(file, until)?.rows;
+    let rows = read_for(file, until)?;
     match rows.find(word) {
         Some(i) => Ok(rows.row(i)),
         None => Err(Refusal::NoRow),

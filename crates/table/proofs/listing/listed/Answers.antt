@@ -7,12 +7,11 @@ use Rattle.table.specs.ReadForLaws.{whole_answer}
 use Rattle.table.specs.Replies.{listing_reply}
 use Rattle.table.proofs.listing.listed.Goals as goal
 
-pub returns-in_err-contents : goal.returns-in_err-contents
-returns-in_err-contents c =
+pub returns-in_err-rows : goal.returns-in_err-rows
+returns-in_err-rows c =
     let p = err_from_is_err_and c.from_residual.result c.from_residual.ensures.1 in
-    let e = c.in_err-contents.ensures in
     whole_answer c.args.file.now (λ i. omega (arith, c.type_inv.file i)) (listing_reply c.args.row_number) _
-    (bad e.0, e.2, rw (p.1, p.2, e.1) refl)
+    (bad _, c.in_err-rows.ensures, rw (p.1, p.2) refl)
 
 pub returns : goal.returns
 returns c = answer_is c.args.file.now (λ i. omega (arith, c.type_inv.file i)) (listing_reply c.args.row_number) _ c.listing_in.ensures
