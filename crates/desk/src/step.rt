@@ -17,7 +17,7 @@ use state::word::State;
 use table::judge::{Contents, PAST_ALL, read_for};
 use table::place::Rows;
 
-// A step's answer: number and detail. Its only result is the desk.
+// A step's answer to C: number and detail. Its only result is the desk.
 #[repr(C)]
 #[derive(Clone, Copy)]
 pub struct StepReply {
