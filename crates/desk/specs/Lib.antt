@@ -7,4 +7,5 @@ pub mod Moving
 pub mod Stages
 pub mod StepLaws
 pub mod MoveLaws
+pub mod FirstBlock
 pub mod StageLaws

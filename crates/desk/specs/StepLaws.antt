@@ -11,10 +11,7 @@ use Rattle.state.specs.Clocks.{Known}
 use Rattle.state.specs.Tell.{tell_yes}
 use Rattle.state.specs.EventByte.{event_of, kind_of}
 use Rattle.state.specs.declared.event.Event as code
-use Rattle.blocks.specs.Bytes.{EachByte}
-use Rattle.table.specs.Read.{reading}
-use Rattle.table.specs.ReadLaws.{says_reading}
-use Rattle.table.specs.Reading.{Reading, good, bad, Says}
+use Rattle.table.specs.Reading.{Reading, good, bad}
 use Rattle.table.specs.Replies.{told, lookup, row_reply}
 use Rattle.table.specs.declared.row.RowReply.{RowReply}
 use Rattle.desk.specs.Stepping.{state_in, known, on, names, allows, stays, moves, asked, step_reply}
@@ -48,10 +45,6 @@ lookup_some w (e ∷ rows) z = go (eqb e.word w) (is_eq e.word w).holds z (looku
         → (i : ℕ) × (i < suc (length rows)) × ((at (e ∷ rows) i).word ≡ w) × (cond b (told e) (lookup w rows) ≡ told (at (e ∷ rows) i))
     go true h z f = (0, omega arith, h tt, refl)
     go false h z f = let r = f z in (suc r.0, omega (arith, r.1), r.2, r.3)
-
--- what a file whose reading is good says
-pub said : (file : List ℕ) → EachByte file → {σ : Sheet} {rows : List Entry} → reading file ≡ good σ rows → Says file (good σ rows)
-said file small e = subst (Says file) e (says_reading file small)
 
 -- the row call's refusals tell a bad file from a good one
 pub good_told : (x : Reading) (w : ℕ) (t : RowReply) → t ≡ row_reply w x → t.number ≢ 7 → (σ : Sheet) × (rows : List Entry) × (x ≡ good σ rows) × (t ≡ lookup w rows)

@@ -4,7 +4,7 @@ ghost use Rattle.desk.specs.Desks.{IsDeskOf, IsStateOn};
 use state::status::{Status, UnknownStatus};
 use state::word::{Elapsed, State};
 
-// A byte each for now, elapsed and the eight statuses. It belongs to the caller.
+// A byte each for now, elapsed and the eight statuses. It belongs to the caller, who may be in C.
 #[repr(C)]
 #[derive(Clone, Copy)]
 pub struct Desk {

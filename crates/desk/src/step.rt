@@ -1,23 +1,28 @@
 // Step: 7, 9, 8, 10, 11 in this order, or the event taken and the desk after it.
-ghost use Rattle.std.specs.Prelude.{◌≡◌};
-ghost use Rattle.sheet.specs.Model.{Good};
+ghost use Rattle.std.specs.Prelude.{◌≡◌, List};
 ghost use Rattle.sheet.specs.Form.{GoodRows};
-ghost use Rattle.table.specs.Reading.{good};
+ghost use Rattle.sheet.specs.Model.{Sheet, Good};
+ghost use Rattle.sheet.specs.Table.{Entry};
+ghost use Rattle.table.specs.Places.{GoodFile};
+ghost use Rattle.table.specs.Reading.{good, Says};
 ghost use Rattle.table.specs.Read.{reading};
 ghost use Rattle.desk.specs.Stepping.{step_reply, step_reply_of};
 ghost use Rattle.desk.specs.Stages.{Named, Standing, MovesOn, Moved};
 
 use crate::desk::Desk;
 use crate::moves::{after, allowed, may, names};
+use blocks::block::as_block;
 use blocks::row::Row;
+use blocks::sizes::BLOCK;
+use form::block::sheet_in;
 use state::event::Event;
 use state::jobs::JobSheet;
 use state::refusal::Refusal;
 use state::word::State;
-use table::judge::{Contents, PAST_ALL, read_for};
+use table::judge::{PAST_ALL, read_for};
 use table::place::Rows;
 
-// A step's answer: number and detail. Its only result is the desk.
+// A step's answer to C: number and detail. Its only result is the desk.
 #[repr(C)]
 #[derive(Clone, Copy)]
 pub struct StepReply {
@@ -69,23 +74,31 @@ fn moved(sheet: &JobSheet, s: State, row: Row, event: Event) -> Result<State, Re
     Ok(after(sheet, s, event))
 }
 
-// The step in a good file that says these jobs and rows.
-fn step_in(contents: &Contents<'_>, desk: Desk, byte: u8) -> Result<Desk, Refusal>
-    requires { Good contents.now.sheet × GoodRows contents.now.sheet contents.now.rows }
-    ensures { step_reply_of desk result ≡ step_reply desk byte (good contents.now.sheet contents.now.rows) }
+// The step in a file that says these jobs and rows.
+fn step_in(sheet: &JobSheet, rows: &Rows<'_>, desk: Desk, byte: u8) -> Result<Desk, Refusal>
+    requires { Good sheet.now × GoodRows sheet.now rows.now }
+    ensures { step_reply_of desk result ≡ step_reply desk byte (good sheet.now rows.now) }
 {
-    let event = named(&contents.sheet, byte)?;
-    let (s, row) = standing(&contents.rows, desk)?;
-    let next = moved(&contents.sheet, s, row, event)?;
+    let event = named(sheet, byte)?;
+    let (s, row) = standing(rows, desk)?;
+    let next = moved(sheet, s, row, event)?;
     Ok(Desk::from(next))
+}
+
+// The sheet of a good file.
+fn sheet_of(file: &[u8]) -> JobSheet
+    requires { GoodFile file.now }
+    ensures { (σ : Sheet) (rows : List Entry) → Says file.now (good σ rows) → result ≡ σ }
+{
+    sheet_in(as_block(&file[..BLOCK]))
 }
 
 // The desk after the event, of any bytes: the whole file is read first.
 fn step_of(file: &[u8], desk: Desk, byte: u8) -> Result<Desk, Refusal>
     ensures { step_reply_of desk result ≡ step_reply desk byte (reading file.now) }
 {
-    let contents = read_for(file, PAST_ALL)?;
-    step_in(&contents, desk, byte)
+    let rows = read_for(file, PAST_ALL)?;
+    step_in(&sheet_of(file), &rows, desk, byte)
 }
 
 // The step by value, of any bytes. A refused one leaves the desk as it stood.

@@ -1,8 +1,11 @@
 // A page, what is put on it in bytes and numbers, and the lines of two numbers.
 ghost use Rattle.std.specs.Prelude.{◌≡◌, [], ◌∷◌, ◌+◌, ◌≤◌, length};
+ghost use Rattle.state.specs.Refusals.{refusal_number, refusal_detail};
 ghost use Rattle.lines.specs.Digits.{digit, decimal};
 ghost use Rattle.lines.specs.Lines.{line_bytes, header_line, refusal_text};
 ghost use Rattle.lines.specs.Parts.{pair_line};
+
+use state::refusal::Refusal;
 
 // A lent slice that is filled from the front on, up to `end`.
 #[derive(Drop)]
@@ -82,10 +85,10 @@ impl Page<'_> {
     }
 
     // Prints a refusal: its number and detail.
-    pub fn put_refusal(&mut self, number: u32, detail: u32)
+    pub fn put_refusal(&mut self, refusal: Refusal)
         requires { HasRoom self.old line_bytes }
-        ensures { Adds self.old (refusal_text number detail) self.new }
+        ensures { Adds self.old (refusal_text (refusal_number refusal) (refusal_detail refusal)) self.new }
     {
-        self.put_pair(b"refused ", number, b" ", detail);
+        self.put_pair(b"refused ", refusal.number(), b" ", refusal.detail());
     }
 }

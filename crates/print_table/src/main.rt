@@ -9,7 +9,8 @@ ghost use Rattle.std.specs.Io.KnownBytes.{Consumes, IsAtEnd};
 use printing::{MOST_PRINTED, MOST_READ};
 use std::io::{self, Read};
 
-// Reads until the slice is full or the input ends, and answers how many bytes that is.
+// Reads until the slice is full or the input ends, and answers how many bytes that is. By hand: of an input that ends early `read_exact` says
+// too little.
 fn read_text<R: Read>(input: &mut R, text: &mut [u8]) -> io::Result<usize>
     ensures bound { ReadsAtMost result text.new }
     ensures room { length text.new ≡ length text.old }

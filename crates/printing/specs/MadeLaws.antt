@@ -1,6 +1,6 @@
 -- What make answered is what is printed. Assumes nothing.
-use Rattle.std.specs.Prelude.{ℕ, suc, ◌-◌, ◌*◌, ◌≤◌, ◌≡◌, refl, ◌≢◌, true, false, not, length, take, drop, replicate}
-use Rattle.std.proofs.Common.{arith, sym, ap, subst, ◌∙◌, inl, inr, true≢false, length-append, take_at}
+use Rattle.std.specs.Prelude.{ℕ, suc, ◌*◌, ◌≤◌, ◌≡◌, refl, ◌≢◌, length, take, drop}
+use Rattle.std.proofs.Common.{arith, sym, ap, subst, ◌∙◌, length-append, take_at}
 use mathlib.Core.List.Memᴰ
 use mathlib.Core.List.{List, [], ◌∷◌, Memᴰ}
 use Rattle.std.proofs.lemmas.List.{length-map}
@@ -17,6 +17,9 @@ use Rattle.blocks.specs.File.{bytes_of}
 use Rattle.blocks.specs.FileLaws.{length_bytes}
 use Rattle.places.specs.Places.{most_live, work_words}
 use Rattle.state.specs.Lent.{lent}
+use Rattle.state.specs.Refusals.{refusal_number}
+use Rattle.state.specs.declared.refusal.Refusal.{Refusal}
+use Rattle.state.specs.declared.refusal.Refusal.TheVariants.{NoSheet, BadJob, ShortWork, TooManyStates, Impossible, ShortOutput, BadBlock, NoRow, NoJob, NotPossible, NotAllowed, Started}
 use Rattle.maker.specs.Making.{SheetLength, size_of, Made, Answered}
 use Rattle.maker.specs.Making as making
 use Rattle.maker.specs.declared.MakeReply.{MakeReply}
@@ -112,3 +115,18 @@ module _
       go (making.bad_job b j e w o) = absurd (other e)
       go (making.no_room b g h e w o) = absurd (other e)
       go (making.answered b g h a c) = told g a
+
+-- no refusal has the number of success
+pub refusal_some : (e : Refusal) → refusal_number e ≢ 0
+refusal_some NoSheet h = omega arith
+refusal_some (BadJob i) h = omega arith
+refusal_some ShortWork h = omega arith
+refusal_some TooManyStates h = omega arith
+refusal_some Impossible h = omega arith
+refusal_some (ShortOutput n) h = omega arith
+refusal_some (BadBlock b) h = omega arith
+refusal_some NoRow h = omega arith
+refusal_some NoJob h = omega arith
+refusal_some NotPossible h = omega arith
+refusal_some NotAllowed h = omega arith
+refusal_some Started h = omega arith

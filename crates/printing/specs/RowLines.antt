@@ -1,10 +1,8 @@
--- The lines of a file's rows, read from their places. `RowLinesLaws` says that they are those of the rows that the file says.
-use Rattle.std.specs.Prelude.{ℕ, List, map}
+-- The lines of a table's rows, the first so many. `RowLinesLaws` says that all of them are the listing's.
+use Rattle.std.specs.Prelude.{ℕ, List, map, take}
+use Rattle.sheet.specs.Table.{Entry}
 use Rattle.blocks.specs.File.{joined}
-use Rattle.blocks.specs.Tab.{tab}
-use Rattle.blocks.specs.Fields.{row_from}
-use Rattle.table.specs.Places.{place}
 use Rattle.lines.specs.Lines.{row_line}
 
-abbrev pub lines_of : (n : ℕ) (file : List ℕ) (count : ℕ) → List ℕ
-lines_of n file count = joined (map (row_line n) (tab count (λ i. row_from file (place i))))
+abbrev pub lines_of : (n : ℕ) (rows : List Entry) (count : ℕ) → List ℕ
+lines_of n rows count = joined (map (row_line n) (take count rows))

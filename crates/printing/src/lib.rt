@@ -12,7 +12,8 @@ pub mod listing;
 
 use crate::listing::put_listing;
 use lines::page::Page;
-use maker::make;
+use maker::make_file;
+use state::refusal::Refusal;
 use text::read::parse;
 
 // The most bytes that a text of good form has, and one more, so that a longer text is seen to be longer.
@@ -31,13 +32,10 @@ fn put_sheet(page: &mut Page<'_>, numbers: &[u16])
 {
     let mut work = [0u32; places::WORK];
     let mut file = [0u8; FILE];
-    let reply = make(numbers, &mut work, &mut file);
-    if reply.number != 0 {
-        page.put_refusal(reply.number, reply.detail);
-        return;
+    match make_file(numbers, &mut work, &mut file) {
+        Ok(length) => put_listing(page, &file[..length as usize]),
+        Err(refusal) => page.put_refusal(refusal),
     }
-    let length = reply.length as usize;
-    put_listing(page, &file[..length]);
 }
 
 // Prints what the program prints for a text, of any bytes.
@@ -47,7 +45,7 @@ fn put_text(page: &mut Page<'_>, text: &[u8])
 {
     match parse(text) {
         Some(numbers) => put_sheet(page, numbers.as_slice()),
-        None => page.put_refusal(1, 0),
+        None => page.put_refusal(Refusal::NoSheet),
     }
 }
 

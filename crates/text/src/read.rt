@@ -12,7 +12,7 @@ const MOST: usize = 32;
 // The digits of the longest number.
 const MOST_DIGITS: usize = 3;
 
-// The numbers of a sheet as a text says them, four to a job.
+// The numbers of a sheet as a text says them, four to a job: the first `count` of an array, for there is no heap.
 #[derive(Drop)]
 pub struct Numbers {
     numbers: [u16; MOST],

@@ -7,31 +7,35 @@ use Rattle.desk.proofs.step.step_in.Goals as goal
 
 pub returns-in_err-s : goal.returns-in_err-s
 returns-in_err-s c =
-    let x = c.args.contents.now in
+    let σ = c.args.sheet.now in
+    let rows = c.args.rows.now in
     let e = c.in_ok-event.ensures in
     let f = c.in_err-s.ensures in
     let p = err_from_is_err_and c.from_residual-in_err-s.result c.from_residual-in_err-s.ensures.1 in
-    rw (p.1, p.2, f.0) (at_eight x.sheet x.rows c.args.desk c.args.byte c.in_ok-event.event e.0 e.1 f.1)
+    rw (p.1, p.2, f.0) (at_eight σ rows c.args.desk c.args.byte c.in_ok-event.event e.0 e.1 f.1)
 
 pub moved-requires : goal.moved-requires
 moved-requires c =
-    let x = c.args.contents.now in
-    moves_on x.sheet x.rows c.requires.0 c.requires.1 c.args.desk (omega (arith, c.well_formed), omega (arith, c.well_formed), search (rules, c.well_formed))
+    let σ = c.args.sheet.now in
+    let rows = c.args.rows.now in
+    moves_on σ rows c.requires.0 c.requires.1 c.args.desk (omega (arith, c.well_formed), omega (arith, c.well_formed), search (rules, c.well_formed))
     (c.in_ok-s.s, c.in_ok-s.row) c.in_ok-s.ensures c.in_ok-event.event c.in_ok-event.ensures.1
 
 pub returns-in_err-next : goal.returns-in_err-next
 returns-in_err-next c =
-    let x = c.args.contents.now in
+    let σ = c.args.sheet.now in
+    let rows = c.args.rows.now in
     let e = c.in_ok-event.ensures in
     let w = c.in_ok-s.ensures in
     let p = err_from_is_err_and c.from_residual-in_err-next.result c.from_residual-in_err-next.ensures.1 in
     rw (p.1, p.2)
-    (at_row x.sheet x.rows c.args.desk c.args.byte c.in_ok-event.event e.0 e.1 (c.in_ok-s.s, c.in_ok-s.row) c.requires.1.ascending w _ (c.in_err-next.ensures c.args.desk w.4))
+    (at_row σ rows c.args.desk c.args.byte c.in_ok-event.event e.0 e.1 (c.in_ok-s.s, c.in_ok-s.row) c.requires.1.ascending w _ (c.in_err-next.ensures c.args.desk w.4))
 
 pub returns : goal.returns
 returns c =
-    let x = c.args.contents.now in
+    let σ = c.args.sheet.now in
+    let rows = c.args.rows.now in
     let e = c.in_ok-event.ensures in
     let w = c.in_ok-s.ensures in
     rw c.from.ensures
-    (at_row x.sheet x.rows c.args.desk c.args.byte c.in_ok-event.event e.0 e.1 (c.in_ok-s.s, c.in_ok-s.row) c.requires.1.ascending w _ (c.in_ok-next.ensures c.args.desk w.4))
+    (at_row σ rows c.args.desk c.args.byte c.in_ok-event.event e.0 e.1 (c.in_ok-s.s, c.in_ok-s.row) c.requires.1.ascending w _ (c.in_ok-next.ensures c.args.desk w.4))
