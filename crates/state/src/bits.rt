@@ -1,4 +1,5 @@
 // A job's bit in a byte of starts, and a job's two bits in a state word, by shifts and masks. Jobs are counted from 1.
+// A job's number stays a byte: it comes as one, and is counted by `for`s, where a type of its own would be made by a proof at each turn.
 ghost use Rattle.std.specs.Prelude.{◌≡◌};
 ghost use Rattle.plant.specs.Range.{In};
 ghost use Rattle.plant.specs.Marks.{Has};
