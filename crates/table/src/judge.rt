@@ -4,9 +4,10 @@ ghost use Rattle.plant.specs.Reflect.{Is};
 ghost use Rattle.sheet.specs.Model.{Sheet};
 ghost use Rattle.sheet.specs.Table.{Entry};
 ghost use Rattle.blocks.specs.Sizes.{block_bytes, most_blocks};
-ghost use Rattle.form.specs.BlockTest.{RowsBlock, jobs_in};
+ghost use Rattle.form.specs.BlockTest.{RowsBlock};
 ghost use Rattle.table.specs.Reading.{block_at, good, Says};
 ghost use Rattle.table.specs.BlockRight.{before};
+ghost use Rattle.table.specs.Places.{GoodFile};
 ghost use Rattle.table.specs.Judging.{Opens, JudgedTo, Judged, IsRefusalFor};
 
 use crate::place::Rows;
@@ -66,23 +67,23 @@ fn rows_good(file: &[u8], b: usize, total: usize, sheet: &JobSheet) -> bool
     rows_follow(block_at(file, b), b as u16, total as u16, last, sheet)
 }
 
-// The sheet of a file whose block 0 is good. On its own, so that its stack is gone when the rows are looked at.
+// The sheet of a good file. On its own, so that its stack is gone when the sheet is used.
 #[inline(never)]
 pub fn sheet_of(file: &[u8]) -> JobSheet
-    requires { Opens file.now }
-    ensures read { result ≡ jobs_in (block_at file.now 0) }
-    ensures said { (σ : Sheet) (rows : List Entry) → Says file.now (good σ rows) → result ≡ σ }
+    requires { GoodFile file.now }
+    ensures { (σ : Sheet) (rows : List Entry) → Says file.now (good σ rows) → result ≡ σ }
 {
     sheet_in(block_at(file, 0))
 }
 
 // The last block read for a word, where block 0 is good: the first that does not end below the word, or the last of the file.
+// The sheet is read in place, and not by sheet_of: a call here costs 50 bytes of stack more (tried).
 fn last_after_first(file: &[u8], word: u64) -> Result<usize, BadBlock>
     requires { Opens file.now }
     ensures { JudgedTo file.now word result }
 {
     let total = file.len() / BLOCK;
-    let sheet = sheet_of(file);
+    let sheet = sheet_in(block_at(file, 0));
     for b in 1..total {
         if !rows_good(file, b, total, &sheet) {
             return Err(BadBlock(b as u32));

@@ -1,5 +1,5 @@
 -- The blocks passed end below the word; the next one is bad, ends the reading, or is passed too. Assumes nothing.
-use Rattle.std.proofs.Common.{length, arith, ap}
+use Rattle.std.proofs.Common.{length, arith, ap, ◌∙◌}
 use Rattle.form.specs.BlockTest.{jobs_in}
 use Rattle.table.specs.Reading.{block_at}
 use Rattle.table.specs.ReadFor.{last_word}
@@ -11,20 +11,20 @@ loop-b-init c = past_first c.args.file.now c.args.word c.requires.0 (λ i. omega
 
 pub returns-then-not-rows_good : goal.returns-then-not-rows_good
 returns-then-not-rows_good c =
-    let sheet = c.sheet_of-sheet.ensures.read in
+    let sheet = c.sheet_in-sheet.ensures ∙ ap jobs_in c.block_at.ensures in
     let bad = block_bad c.args.file.now _ _ _ sheet c.rows_good.ensures c.if-not-rows_good.true in
     next_refused c.args.file.now c.args.word c.requires.0 c.loop-b.b c.loop-b.invariant c.loop-b-test.true bad
 
 pub read-requires : goal.read-requires
 read-requires c =
-    let sheet = c.sheet_of-sheet.ensures.read in
+    let sheet = c.sheet_in-sheet.ensures ∙ ap jobs_in c.block_at.ensures in
     let r = next_rows c.args.file.now c.args.word c.requires.0 c.loop-b.b c.loop-b.invariant c.loop-b-test.true (λ i. omega (arith, c.type_inv.file i))
     _ _ sheet c.rows_good.ensures c.if-not-rows_good.false in
     (c.requires.0, (omega arith, (jobs_in (block_at c.args.file.now 0), r.0, r.1)))
 
 pub last_word-requires : goal.last_word-requires
 last_word-requires c =
-    let sheet = c.sheet_of-sheet.ensures.read in
+    let sheet = c.sheet_in-sheet.ensures ∙ ap jobs_in c.block_at.ensures in
     let r = next_rows c.args.file.now c.args.word c.requires.0 c.loop-b.b c.loop-b.invariant c.loop-b-test.true (λ i. omega (arith, c.type_inv.file i))
     _ _ sheet c.rows_good.ensures c.if-not-rows_good.false in
     let n = ap length (c.read.ensures _ _ r.1) in
@@ -32,7 +32,7 @@ last_word-requires c =
 
 pub returns-then-word-from : goal.returns-then-word-from
 returns-then-word-from c =
-    let sheet = c.sheet_of-sheet.ensures.read in
+    let sheet = c.sheet_in-sheet.ensures ∙ ap jobs_in c.block_at.ensures in
     let r = next_rows c.args.file.now c.args.word c.requires.0 c.loop-b.b c.loop-b.invariant c.loop-b-test.true (λ i. omega (arith, c.type_inv.file i))
     _ _ sheet c.rows_good.ensures c.if-not-rows_good.false in
     let last = ap last_word (c.read.ensures _ _ r.1) in (
@@ -45,7 +45,7 @@ returns-then-word-from c =
 
 pub loop-b-preserved : goal.loop-b-preserved
 loop-b-preserved c =
-    let sheet = c.sheet_of-sheet.ensures.read in
+    let sheet = c.sheet_in-sheet.ensures ∙ ap jobs_in c.block_at.ensures in
     let r = next_rows c.args.file.now c.args.word c.requires.0 c.loop-b.b c.loop-b.invariant c.loop-b-test.true (λ i. omega (arith, c.type_inv.file i))
     _ _ sheet c.rows_good.ensures c.if-not-rows_good.false in
     let last = ap last_word (c.read.ensures _ _ r.1) in
