@@ -4,11 +4,16 @@ use Rattle.sheet.specs.declared.Job.{Job}
 use Rattle.sheet.specs.Table.{Entry}
 use Rattle.blocks.specs.Sizes.{block_bytes, body_bytes, header_bytes, slot_bytes, letter_t, letter_b}
 use Rattle.blocks.specs.Bytes.{u16_at, u32_at, check_of}
+use Rattle.blocks.specs.declared.header.Header.{Header}
 
 -- "The first two bytes are the letters T and B"
 pub record Lettered (block : List ℕ) : Type 0 where
   pub first : get_or block 0 0 ≡ letter_t
   pub second : get_or block 1 0 ≡ letter_b
+
+-- "number of jobs .. slots used .. block number from 0 .. number of blocks"
+abbrev pub header_in : List ℕ → Header
+header_in s = record { jobs = get_or s 2 0; used = get_or s 3 0; number = u16_at s 4; total = u16_at s 6 }
 
 -- what a block has around its slots of `w` bytes, field by field
 pub record Framed (w n used k total : ℕ) (block : List ℕ) : Type 0 where

@@ -2,12 +2,10 @@
 ghost use Rattle.plant.specs.Reflect.{Is};
 ghost use Rattle.blocks.specs.Fields.{Lettered};
 
-use crate::sizes::BLOCK;
-
 pub const LETTERS: [u8; 2] = *b"TB";
 
-// Whether a block begins with the letters, one after the other.
-pub fn letters_stand(block: &[u8; BLOCK]) -> bool
+// Whether bytes begin with the letters, one after the other. Fewer bytes than two have none.
+pub fn letters_stand(block: &[u8]) -> bool
     ensures { Is result (Lettered block.now) }
 {
     block.starts_with(&LETTERS)

@@ -1,4 +1,4 @@
-// A row as a file holds it: word, byte of starts, tick code.
+// A row as a file holds it: word, byte of starts, tick code. The code is a byte: a row not yet judged has any there, and the reply to C has it.
 ghost use Rattle.std.specs.Prelude.{◌≡◌, ◌≤◌, ◌+◌, length};
 
 use crate::numbers::read32;

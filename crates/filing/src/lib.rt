@@ -8,12 +8,13 @@ ghost use Rattle.blocks.specs.Sizes.{block_bytes, block_slots};
 ghost use Rattle.blocks.specs.File.{block_of, row_slot, blocks_of, bytes_of};
 ghost use Rattle.filing.specs.Filing.{entry_at, entries_at, PlacesIn};
 
+use blocks::header::Header;
 use blocks::put::put;
 use blocks::sizes::{BLOCK, HEADER, SLOT, SLOTS};
 use places::key_at;
 use places::note::note_at;
 use state::jobs::JobSheet;
-use writer::{blocks_of, header_of, row_slot, seal, write_jobs};
+use writer::{blocks_of, row_slot, seal, write_jobs};
 
 // The slot of the row at a place.
 fn slot_at(work: &[u32], place: u16) -> [u8; SLOT]
@@ -24,18 +25,18 @@ fn slot_at(work: &[u32], place: u16) -> [u8; SLOT]
     row_slot(key_at(work, p).word, note_at(work, p))
 }
 
-// Writes block k of a file, with the rows at these places: the header, a slot a row, zeros and the check.
-fn write_rows(part: &mut [u8], n: u8, k: u16, total: u16, work: &[u32], places: &[u16])
+// Writes a block of a file, with the rows at these places: the header, a slot a row, zeros and the check.
+fn write_rows(part: &mut [u8], header: Header, work: &[u32], places: &[u16])
     requires part_len { length part.old ≡ block_bytes }
     requires places_in { PlacesIn work.now places.now × (length places.now ≤ block_slots) }
-    ensures { part.new ≡ block_of n k total (map row_slot (entries_at work.now places.now)) }
+    requires used { header.used ≡ length places.now }
+    ensures { part.new ≡ block_of header.jobs header.number header.total (map row_slot (entries_at work.now places.now)) }
 {
-    let used = places.len();
-    put(part, 0, &header_of(n, used as u8, k, total));
+    put(part, 0, &header.to_bytes());
     for (s, place) in places.iter().enumerate() {
         put(part, HEADER + SLOT * s, &slot_at(work, *place));
     }
-    seal(part, HEADER + SLOT * used);
+    seal(part, HEADER + SLOT * places.len());
 }
 
 // Writes the whole file of a sheet and the rows at places in their order: block 0, then block after block of rows. What stands behind the file
@@ -52,13 +53,12 @@ pub fn write_file(out: &mut [u8], sheet: &JobSheet, work: &[u32], places: &[u16]
         let at = BLOCK * b;
         let from = SLOTS * (b - 1);
         let end = places.len().min(from + SLOTS);
-        write_rows(
-            &mut out[at..at + BLOCK],
-            n,
-            b as u16,
-            total as u16,
-            work,
-            &places[from..end],
-        );
+        let header = Header {
+            jobs: n,
+            used: (end - from) as u8,
+            number: b as u16,
+            total: total as u16,
+        };
+        write_rows(&mut out[at..at + BLOCK], header, work, &places[from..end]);
     }
 }

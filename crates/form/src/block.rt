@@ -8,6 +8,7 @@ ghost use Rattle.form.specs.BlockTest.{Zeros, Headed, JobsBlock, SlotGood, Count
 
 use crate::row::row_good;
 use blocks::check::check_of;
+use blocks::header::Header;
 use blocks::letters::letters_stand;
 use blocks::numbers::{read16, read32};
 use blocks::row::Row;
@@ -22,7 +23,8 @@ fn all_zero(bytes: &[u8]) -> bool
     bytes.iter().all(|byte| *byte == 0)
 }
 
-// Whether all bytes behind so many slots are 0, up to the check.
+// Whether all bytes behind so many slots are 0, up to the check. The count is a byte of the block, so that it is no more than the slots is
+// asked here, in framed and in slots_good: a header that is read may hold any count.
 fn unused_zero(block: &[u8; BLOCK], used: u8) -> bool
     requires { used ≤ block_slots }
     ensures { Is result (Zeros block.now (header_bytes + slot_bytes * used)) }
@@ -31,23 +33,19 @@ fn unused_zero(block: &[u8; BLOCK], used: u8) -> bool
 }
 
 // Whether a block's header is right: letters, counts and numbers.
-fn headed(block: &[u8; BLOCK], n: u8, used: u8, k: u16, total: u16) -> bool
-    ensures { Is result (Headed n used k total block.now) }
+fn headed(block: &[u8; BLOCK], header: Header) -> bool
+    ensures { Is result (Headed header.jobs header.used header.number header.total block.now) }
 {
-    letters_stand(block)
-        && block[2] == n
-        && block[3] == used
-        && read16(block, 4) == k
-        && read16(block, 6) == total
+    letters_stand(block) && Header::read(block) == header
 }
 
 // Whether all around the slots is right: the header, zeros behind the slots, and the check.
-fn framed(block: &[u8; BLOCK], n: u8, used: u8, k: u16, total: u16) -> bool
-    requires { used ≤ block_slots }
-    ensures { Is result (Framed slot_bytes n used k total block.now) }
+fn framed(block: &[u8; BLOCK], header: Header) -> bool
+    requires { header.used ≤ block_slots }
+    ensures { Is result (Framed slot_bytes header.jobs header.used header.number header.total block.now) }
 {
-    headed(block, n, used, k, total)
-        && unused_zero(block, used)
+    headed(block, header)
+        && unused_zero(block, header.used)
         && read32(block, BODY) == check_of(block)
 }
 
@@ -69,6 +67,7 @@ pub fn sheet_in(block: &[u8; BLOCK]) -> JobSheet
     requires { get_or block.now 3 0 ≤ most_jobs }
     ensures { result ≡ jobs_in block.now }
 {
+    // The first slot's job fills the eight places, till each place has its own.
     let mut jobs = [job_at(block, HEADER); JOBS];
     for (s, job) in jobs.iter_mut().enumerate() {
         *job = job_at(block, HEADER + SLOT * s);
@@ -81,7 +80,13 @@ pub fn jobs_good(block: &[u8; BLOCK], total: u16) -> bool
     ensures { Is result (JobsBlock total block.now) }
 {
     let n = block[3];
-    if n < 1 || 8 < n || !framed(block, n, n, 0, total) {
+    let header = Header {
+        jobs: n,
+        used: n,
+        number: 0,
+        total,
+    };
+    if n < 1 || JOBS < usize::from(n) || !framed(block, header) {
         return false;
     }
     for s in 0..usize::from(n) {
@@ -127,12 +132,12 @@ fn slots_good(block: &[u8; BLOCK], used: u8, sheet: &JobSheet) -> bool
 }
 
 // Whether a block has the number of rows that its place asks: all slots, or 1 to all in the last block.
-fn count_fits(used: u8, b: u16, total: u16) -> bool
-    requires { b < most_blocks }
-    ensures { Is result (CountFits used b total) }
+fn count_fits(header: Header) -> bool
+    requires { header.number < most_blocks }
+    ensures { Is result (CountFits header.used header.number header.total) }
 {
-    let used = usize::from(used);
-    1 <= used && used <= SLOTS && (used == SLOTS || total <= b + 1)
+    let used = usize::from(header.used);
+    1 <= used && used <= SLOTS && (used == SLOTS || header.total <= header.number + 1)
 }
 
 // Whether the first word of block b follows the last word before: the first row has word 0, any other is above the row before.
@@ -148,10 +153,14 @@ pub fn rows_follow(block: &[u8; BLOCK], b: u16, total: u16, last: u32, sheet: &J
     requires { (1 ≤ b) × (b < most_blocks) }
     ensures { Is result (RowsBlock sheet.now total b last block.now) }
 {
-    let used = block[3];
-    let n = sheet.count() as u8;
-    count_fits(used, b, total)
-        && framed(block, n, used, b, total)
+    let header = Header {
+        jobs: sheet.count() as u8,
+        used: block[3],
+        number: b,
+        total,
+    };
+    count_fits(header)
+        && framed(block, header)
         && follows(b, last, read32(block, HEADER))
-        && slots_good(block, used, sheet)
+        && slots_good(block, header.used, sheet)
 }

@@ -24,7 +24,7 @@ pub struct Passed {
 }
 
 // The tick now of a state word.
-fn now_of(word: u32) -> u8
+pub fn now_of(word: u32) -> u8
     ensures { result ≡ word / 2 ^ 24 }
 {
     (word >> 24) as u8
@@ -159,6 +159,6 @@ pub fn row_good(sheet: &JobSheet, row: Row) -> bool
     let Some(passed) = pass(sheet, row) else {
         return false;
     };
-    let rests = passed.running | (elapsed_of(row.word).0 == 0);
-    rests && marks_fit(passed, row.starts, row.tick)
+    let elapsed_fits = passed.running | (elapsed_of(row.word).0 == 0);
+    elapsed_fits && marks_fit(passed, row.starts, row.tick)
 }

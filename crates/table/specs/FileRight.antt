@@ -1,21 +1,23 @@
 -- What the tests of block 0 and of a block more tell of the blocks read. Assumes nothing.
 use Rattle.std.specs.Prelude.{ℕ, suc, ◌+◌, ◌-◌, ◌%◌, ◌≤◌, ◌<◌, ◌≡◌, refl, List, [], length, get_or}
-use Rattle.std.proofs.Common.{arith, inl, inr}
+use Rattle.std.proofs.Common.{arith, inl, inr, sym, ◌∙◌, ext_get_or}
 use Rattle.std.proofs.Math.Decide.{dec_le, ℕ_discrete}
 use Rattle.sheet.specs.declared.Job.{Job}
-use Rattle.sheet.specs.Model.{Sheet}
+use Rattle.sheet.specs.Model.{Sheet, no_job}
 use Rattle.sheet.specs.Arrays.{sheet_of}
 use Rattle.blocks.specs.Fields.{slot_at, job_from}
 use Rattle.blocks.specs.Tab.{tab}
+use Rattle.blocks.specs.TabLaws.{length_tab, get_or_tab}
 use Rattle.sheet.specs.Table.{Entry}
 use Rattle.blocks.specs.Sizes.{block_bytes, most_jobs}
 use Rattle.blocks.specs.Bytes.{EachByte}
 use Rattle.form.specs.BlockTest.{RowsBlock, JobsBlock, jobs_in}
 use Rattle.table.specs.Reading.{total, block_at, Sized, Reads, GoodTo, good, bad, Says}
-use Rattle.table.specs.ReadingLaws.{good_below}
+use Rattle.table.specs.ReadingLaws.{good_below, jobs_count, job_there}
 use Rattle.table.specs.BlockRight.{before, goes_on, went_on}
 use Rattle.table.specs.JobsRight.{sheet_in, jobs_open, opens_jobs}
 use Rattle.table.specs.Judging.{Opens}
+use Rattle.table.specs.Places.{GoodFile}
 
 -- the blocks below b are read
 abbrev pub SoFar : List ℕ → ℕ → Type 0
@@ -53,6 +55,22 @@ module _ (file : List ℕ) where
 
       pub all_good : b ≡ total file → Says file (good J s.1)
       all_good e = let d : total file - 1 ≡ s.0 = omega (arith, s.2) in (sized, rw d s.3)
+
+-- a good file opens, and block 0 has the jobs that it says
+pub good_opens : (file : List ℕ) → GoodFile file → Opens file
+good_opens file g = (g.2.0, opens_jobs file g.2.0 (good_below 0 (total file - 1) (omega (arith, g.2.0.long)) (g.0, g.1, g.2.1)))
+
+pub jobs_said : (file : List ℕ) (σ : Sheet) (rows : List Entry) → Says file (good σ rows) → jobs_in (block_at file 0) ≡ σ
+jobs_said file σ rows s = ext_get_or no_job (jobs_in (block_at file 0)) σ (size ∙ sym n) (λ i h. get_or_tab (get_or (block_at file 0) 3 0) read no_job i (omega (arith, size)) ∙ job_there s.0 s.1 i (omega (arith, size, n)))
+  where
+    read : ℕ → Job
+    read i = job_from (block_at file 0) (slot_at i)
+
+    n : length σ ≡ get_or (block_at file 0) 3 0
+    n = jobs_count s.0 s.1
+
+    size : length (jobs_in (block_at file 0)) ≡ get_or (block_at file 0) 3 0
+    size = length_tab (get_or (block_at file 0) 3 0) read
 
 -- a file that does not open is bad
 pub not_opens : (file : List ℕ) → ¬ (Opens file) → Says file (bad 0)

@@ -20,9 +20,11 @@ Answers file f r = (x : Reading) × Says file x × (r ≡ f x)
 
 -- Row: "7, 8" ---------------------------------------------------------------------------------------------------------
 
+-- a refusal: "Result fields are 0 on a refusal"
 abbrev pub refused : (number detail : ℕ) → RowReply
 refused n d = record { number = n; detail = d; starts = 0; tick = 0 }
 
+-- a row's "starts and tick code"
 abbrev pub told : Entry → RowReply
 told e = record { number = 0; detail = 0; starts = e.starts; tick = e.tick }
 
@@ -31,6 +33,7 @@ unfoldable pub lookup : ℕ → List Entry → RowReply
 lookup w [] = refused 8 0
 lookup w (e ∷ l) = cond (eqb e.word w) (told e) (lookup w l)
 
+-- of any file: 7 and the "lowest bad block", or what its rows say
 abbrev pub row_reply : (word : ℕ) → Reading → RowReply
 row_reply w (bad b) = refused 7 b
 row_reply w (good σ rows) = lookup w rows
@@ -40,6 +43,7 @@ abbrev pub row_reply_of : Result Row Refusal → RowReply
 row_reply_of (Ok r) = told (entry_of r)
 row_reply_of (Err e) = refused (refusal_number e) (refusal_detail e)
 
+-- the reply is that
 abbrev pub IsRowReplyOf : Result Row Refusal → RowReply → Type 0
 IsRowReplyOf answer reply = reply ≡ row_reply_of answer
 
@@ -56,9 +60,11 @@ number_of j (suc (suc (suc m))) = j.due
 abbrev pub numbers_of : Sheet → List ℕ
 numbers_of σ = tab 32 (λ i. number_of (get_or σ (i / 4) no_job) (i % 4))
 
+-- a refusal, with all else 0
 abbrev pub unlisted : (number detail : ℕ) → ListingReply
 unlisted n d = record { number = n; detail = d; jobs = 0; rows = 0; numbers = replicate 32 0; word = 0; starts = 0; tick = 0 }
 
+-- "all jobs, the count of rows and that row"
 abbrev pub listed : Sheet → List Entry → Entry → ListingReply
 listed σ rows e = record {
   number = 0;
@@ -81,6 +87,7 @@ abbrev pub listing_reply_of : Result ListingReply Refusal → ListingReply
 listing_reply_of (Ok r) = r
 listing_reply_of (Err e) = unlisted (refusal_number e) (refusal_detail e)
 
+-- the reply is that
 abbrev pub IsListingReplyOf : Result ListingReply Refusal → ListingReply → Type 0
 IsListingReplyOf answer reply = reply ≡ listing_reply_of answer
 
@@ -95,6 +102,7 @@ unfoldable pub is_row : ℕ → List Entry → Bool
 is_row w [] = false
 is_row w (e ∷ l) = eqb e.word w || is_row w l
 
+-- a refusal, with all else 0
 abbrev pub no_leeway : (number detail : ℕ) → LeewayReply
 no_leeway n d = record { number = n; detail = d; leeway = pos 0 }
 
@@ -113,5 +121,6 @@ abbrev pub leeway_reply_of : Result ℤ Refusal → LeewayReply
 leeway_reply_of (Ok t) = record { number = 0; detail = 0; leeway = t }
 leeway_reply_of (Err e) = no_leeway (refusal_number e) (refusal_detail e)
 
+-- the reply is that
 abbrev pub IsLeewayReplyOf : Result ℤ Refusal → LeewayReply → Type 0
 IsLeewayReplyOf answer reply = reply ≡ leeway_reply_of answer

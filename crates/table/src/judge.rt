@@ -1,10 +1,13 @@
 // The blocks of a file read in order: up to a bad one, to the end, or to where a word would stand.
-ghost use Rattle.std.specs.Prelude.{◌≡◌, ◌≤◌, ◌<◌, ◌+◌, ◌*◌, length};
+ghost use Rattle.std.specs.Prelude.{◌≡◌, ◌≤◌, ◌<◌, ◌+◌, ◌*◌, List, length};
 ghost use Rattle.plant.specs.Reflect.{Is};
+ghost use Rattle.sheet.specs.Model.{Sheet};
+ghost use Rattle.sheet.specs.Table.{Entry};
 ghost use Rattle.blocks.specs.Sizes.{block_bytes, most_blocks};
 ghost use Rattle.form.specs.BlockTest.{RowsBlock};
-ghost use Rattle.table.specs.Reading.{block_at};
+ghost use Rattle.table.specs.Reading.{block_at, good, Says};
 ghost use Rattle.table.specs.BlockRight.{before};
+ghost use Rattle.table.specs.Places.{GoodFile};
 ghost use Rattle.table.specs.Judging.{Opens, JudgedTo, Judged, IsRefusalFor};
 
 use crate::place::Rows;
@@ -64,8 +67,18 @@ fn rows_good(file: &[u8], b: usize, total: usize, sheet: &JobSheet) -> bool
     rows_follow(block_at(file, b), b as u16, total as u16, last, sheet)
 }
 
+// The sheet of a good file. On its own, so that its stack is gone when the sheet is used.
+#[inline(never)]
+pub fn sheet_of(file: &[u8]) -> JobSheet
+    requires { GoodFile file.now }
+    ensures { (σ : Sheet) (rows : List Entry) → Says file.now (good σ rows) → result ≡ σ }
+{
+    sheet_in(block_at(file, 0))
+}
+
 // The last block read for a word, where block 0 is good: the first that does not end below the word, or the last of the file.
-fn last_after_first(file: &[u8], word: u64) -> Result<u32, BadBlock>
+// The sheet is read in place, and not by sheet_of: a call here costs 50 bytes of stack more (tried).
+fn last_after_first(file: &[u8], word: u64) -> Result<usize, BadBlock>
     requires { Opens file.now }
     ensures { JudgedTo file.now word result }
 {
@@ -76,15 +89,15 @@ fn last_after_first(file: &[u8], word: u64) -> Result<u32, BadBlock>
             return Err(BadBlock(b as u32));
         }
         if word <= u64::from(Rows::read(file, b).last_word()) {
-            return Ok(b as u32);
+            return Ok(b);
         }
     }
-    Ok((total - 1) as u32)
+    Ok(total - 1)
 }
 
 // The last block of a file read for a word, or the first that is bad. On its own, so that its stack is gone when a row is looked up.
 #[inline(never)]
-fn last_block(file: &[u8], word: u64) -> Result<u32, BadBlock>
+fn last_block(file: &[u8], word: u64) -> Result<usize, BadBlock>
     ensures { JudgedTo file.now word result }
 {
     if !opens(file) {
@@ -98,5 +111,5 @@ pub fn read_for(file: &[u8], word: u64) -> Result<Rows<'_>, BadBlock>
     ensures { Judged file.now word result }
 {
     let b = last_block(file, word)?;
-    Ok(Rows::read(file, b as usize))
+    Ok(Rows::read(file, b))
 }

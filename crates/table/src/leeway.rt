@@ -13,6 +13,7 @@ use crate::judge::{PAST_ALL, block_at, read_for};
 use crate::place::Rows;
 use blocks::sizes::{HEADER, SLOT};
 use form::block::job_at;
+use form::row::now_of;
 use sheet::Job;
 use state::bits::status_in;
 use state::refusal::Refusal;
@@ -86,16 +87,14 @@ fn leeway_in(file: &[u8], rows: &Rows, word: u32, job: u32) -> Result<i32, Refus
     if !has_job(file, job) {
         return Err(Refusal::NoJob);
     }
-    let Some(_) = rows.find(word) else {
-        return Err(Refusal::NoRow);
-    };
+    rows.find(word).ok_or(Refusal::NoRow)?;
     if was_started(status_in(word, job as u8)) {
         return Err(Refusal::Started);
     }
-    Ok(left(job_of(file, job), (word >> 24) as u8))
+    Ok(left(job_of(file, job), now_of(word)))
 }
 
-// The same of any bytes: the whole file is read first.
+// The leeway of a job in a state, or why there is none.
 fn leeway_of(file: &[u8], word: u32, job: u32) -> Result<i32, Refusal>
     ensures { leeway_reply_of result ≡ leeway_reply word job (reading file.now) }
 {
@@ -103,7 +102,7 @@ fn leeway_of(file: &[u8], word: u32, job: u32) -> Result<i32, Refusal>
     leeway_in(file, &rows, word, job)
 }
 
-// The leeway of a job in a state, of any bytes.
+// The leeway of a job in a state, of any bytes: the whole file is read first.
 pub fn leeway(file: &[u8], word: u32, job: u32) -> LeewayReply
     ensures { result ≡ leeway_reply word job (reading file.now) }
 {

@@ -61,7 +61,7 @@ fn numbers_of(file: &[u8]) -> [u16; 32]
     numbers
 }
 
-// The row of a number from 1, in a good file of these rows.
+// The row of a number from 1, in a good file of these rows. It is made as the reply to C: a struct of its own would have the same fields.
 fn listing_in(file: &[u8], rows: &Rows, row_number: u32) -> Result<ListingReply, Refusal>
     requires { (σ : Sheet) × Says file.now (good σ rows.now) }
     ensures { Answers file.now (listing_reply row_number) (listing_reply_of result) }
@@ -83,7 +83,7 @@ fn listing_in(file: &[u8], rows: &Rows, row_number: u32) -> Result<ListingReply,
     })
 }
 
-// The same of any bytes: the whole file is read first.
+// The listing of a row number, or why there is none.
 fn listed(file: &[u8], row_number: u32) -> Result<ListingReply, Refusal>
     ensures { listing_reply_of result ≡ listing_reply row_number (reading file.now) }
 {
@@ -91,7 +91,7 @@ fn listed(file: &[u8], row_number: u32) -> Result<ListingReply, Refusal>
     listing_in(file, &rows, row_number)
 }
 
-// All jobs, the count of rows and the row of a number from 1, of any bytes.
+// All jobs, the count of rows and the row of a number from 1, of any bytes: the whole file is read first.
 pub fn listing(file: &[u8], row_number: u32) -> ListingReply
     ensures { result ≡ listing_reply row_number (reading file.now) }
 {

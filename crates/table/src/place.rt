@@ -82,7 +82,8 @@ impl<'a> Rows<'a> {
     }
 
     // The first row whose word is not below the asked one, or their number: all before `lo` are below it, all from `hi` on are not.
-    // By hand: the words stand in blocks of the lent file, and no slice of them can be searched.
+    // By hand: the words stand in blocks of the lent file, and no slice of them can be searched. Where a field is read, here and in find, the
+    // order of the rows is known; a call of count does not tell it.
     fn lower(&self, word: u32) -> usize
         ensures inside { result ≤ length self.now }
         ensures below { (i : ℕ) → i < result → (at self.now i).word < word }

@@ -40,18 +40,16 @@ impl From<Result<Row, Refusal>> for RowReply {
     }
 }
 
-// The row with a word, among those of the blocks read for a word.
+// The row with a word, among the rows of the blocks read for a word `until`.
 fn row_in(file: &[u8], until: u64, word: u32) -> Result<Row, Refusal>
     ensures { AnswersFor file.now until (row_reply word) (row_reply_of result) }
 {
     let rows = read_for(file, until)?;
-    match rows.find(word) {
-        Some(i) => Ok(rows.row(i)),
-        None => Err(Refusal::NoRow),
-    }
+    let i = rows.find(word).ok_or(Refusal::NoRow)?;
+    Ok(rows.row(i))
 }
 
-// The same as a reply.
+// Starts and tick code for a word, among the rows of the blocks read for a word `until`, or the refusal.
 pub fn row_read(file: &[u8], until: u64, word: u32) -> RowReply
     ensures { AnswersFor file.now until (row_reply word) result }
 {

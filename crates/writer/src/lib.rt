@@ -1,30 +1,19 @@
-// The parts of a file: headers, slots, the block of jobs, the end of a block, and how many blocks and bytes there are.
+// The parts of a file: slots, the block of jobs, the end of a block, and how many blocks and bytes there are.
 
 #![tactic(auto)]
 
 ghost use Rattle.std.specs.Prelude.{◌≡◌, map, ◌≤◌, ◌+◌, ◌*◌, min, length, take};
 ghost use Rattle.blocks.specs.Sizes.{block_bytes, body_bytes, block_slots, most_rows};
-ghost use Rattle.blocks.specs.File.{header, sealed, block_of, job_slot, row_slot, blocks_of};
+ghost use Rattle.blocks.specs.File.{sealed, block_of, job_slot, row_slot, blocks_of};
 ghost use Rattle.blocks.specs.Tab.{row_of};
 
 use blocks::block::as_block;
 use blocks::check::check_of;
-use blocks::letters::LETTERS;
+use blocks::header::Header;
 use blocks::put::{put, put_zeros};
 use blocks::sizes::{BLOCK, BODY, HEADER, SLOT, SLOTS};
 use sheet::Job;
 use state::jobs::JobSheet;
-
-// The bytes before the slots: letters, jobs, slots used, block number, number of blocks.
-pub fn header_of(n: u8, used: u8, k: u16, total: u16) -> [u8; HEADER]
-    ensures { result ≡ header n used k total }
-{
-    let k = k.to_le_bytes();
-    let total = total.to_le_bytes();
-    [
-        LETTERS[0], LETTERS[1], n, used, k[0], k[1], total[0], total[1],
-    ]
-}
 
 // A job's slot: its four numbers in two bytes each.
 fn job_slot(job: Job) -> [u8; SLOT]
@@ -66,7 +55,13 @@ pub fn write_jobs(part: &mut [u8], total: u16, sheet: &JobSheet)
     ensures { part.new ≡ block_of (length sheet.now) 0 total (map job_slot sheet.now) }
 {
     let count = sheet.count();
-    put(part, 0, &header_of(count as u8, count as u8, 0, total));
+    let header = Header {
+        jobs: count as u8,
+        used: count as u8,
+        number: 0,
+        total,
+    };
+    put(part, 0, &header.to_bytes());
     for (s, job) in sheet.jobs().iter().enumerate() {
         put(part, HEADER + SLOT * s, &job_slot(*job));
     }

@@ -8,7 +8,7 @@ use Rattle.filing.specs.PlaceLaws.{place_small}
 use Rattle.filing.proofs.write_rows.Goals as goal
 
 pub loop-s-init : goal.loop-s-init
-loop-s-init c = filled_none c.args.part.now c.requires.part_len (rw c.header_of.ensures at c.put.ensures)
+loop-s-init c = filled_none c.args.part.now c.requires.part_len (rw (c.to_bytes.ensures, c.requires.used) at c.put.ensures)
 
 pub slot_at-requires : goal.slot_at-requires
 slot_at-requires c = (place_small c.requires.places_in.0 c.loop-s.s c.loop-s-test.true, c.requires.places_in.0.words)
@@ -21,4 +21,4 @@ pub returns : goal.returns
 returns c =
     let a = c.args in
     filled_all c.loop-s.invariant c.loop-s-test.false c.seal.ensures
-    ∙ ap (λ (l : List Entry). block_of a.n a.k a.total (map row_slot l)) (rows_at a.work.now a.places.now)
+    ∙ ap (λ (l : List Entry). block_of a.header.jobs a.header.number a.header.total (map row_slot l)) (rows_at a.work.now a.places.now)

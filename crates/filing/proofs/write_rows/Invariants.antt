@@ -6,4 +6,4 @@ use Rattle.filing.specs.Filing.{entry_at}
 use Rattle.filing.proofs.write_rows.Given as goal
 
 abbrev pub invariant-loop-s : goal.invariant-loop-s
-invariant-loop-s l = Filled row_slot l.n l.k l.total (length l.places) (λ i. entry_at l.work (get_or l.places i 0)) l.part l.s
+invariant-loop-s l = Filled row_slot l.fn.header.jobs l.fn.header.number l.fn.header.total (length l.places) (λ i. entry_at l.work (get_or l.places i 0)) l.part l.s

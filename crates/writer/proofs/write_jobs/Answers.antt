@@ -8,7 +8,7 @@ use Rattle.writer.specs.WriteLaws.{filled_none, filled_more, filled_all}
 use Rattle.writer.proofs.write_jobs.Goals as goal
 
 pub loop-s-init : goal.loop-s-init
-loop-s-init c = filled_none c.args.part.now c.requires (rw (c.header_of.ensures, c.count-count.ensures.same) at c.put.ensures)
+loop-s-init c = filled_none c.args.part.now c.requires (rw (c.to_bytes.ensures, c.count-count.ensures.same) at c.put.ensures)
 
 pub loop-s-preserved : goal.loop-s-preserved
 loop-s-preserved c =

@@ -13,7 +13,7 @@ returns-then-follows c =
             is_map
             (λ s. record {
               count = told_yes c.count_fits.ensures v.if-count_fits.true;
-              frame = rw c.count-n.ensures.same at (told_yes v.framed.ensures (sym v.value-is ∙ w.if-framed.true));
+              frame = rw c.count.ensures.same at (told_yes v.framed.ensures (sym v.value-is ∙ w.if-framed.true));
               slots = s;
               follows = rw w.read32.ensures at (told_yes w.follows.ensures (sym w.value-is ∙ c.if-follows.true));
             })

@@ -21,19 +21,19 @@ returns-in_default c =
     jobs_bad c.args.sheet.now a.word a.starts a.tick (omega (arith, n.same)) (told_yes (rw n.same at c.ends.ensures) c.if-not-ends.false)
     (rw n.same at (sym c.all_done.ensures) ∙ c.if-all_done.false) c.in_default.ensures
 
-pub returns-then-rests : goal.returns-then-rests
-returns-then-rests c =
+pub returns-then-elapsed_fits : goal.returns-then-elapsed_fits
+returns-then-elapsed_fits c =
     let a = c.args.row in
     let n = c.count-n.ensures in
     rest_row c.args.sheet.now a.word a.starts a.tick (omega (arith, n.same)) (told_yes (rw n.same at c.ends.ensures) c.if-not-ends.false)
     (rw n.same at (sym c.all_done.ensures) ∙ c.if-all_done.false) c.in-Some.passed c.in-Some.ensures
-    (rw c.elapsed_of.ensures at c.if-rests.true) (search rules) (search rules) _ c.marks_fit.ensures
+    (rw c.elapsed_of.ensures at c.if-elapsed_fits.true) (search rules) (search rules) _ c.marks_fit.ensures
 
-pub returns-else-rests : goal.returns-else-rests
-returns-else-rests c =
+pub returns-else-elapsed_fits : goal.returns-else-elapsed_fits
+returns-else-elapsed_fits c =
     let a = c.args.row in
     let n = c.count-n.ensures in
-    subst (λ (b : Bool). Is b (GoodEntry c.args.sheet.now (entry_of a))) (sym c.if-rests.false)
+    subst (λ (b : Bool). Is b (GoodEntry c.args.sheet.now (entry_of a))) (sym c.if-elapsed_fits.false)
     (rest_bad c.args.sheet.now a.word a.starts a.tick (omega (arith, n.same)) (told_yes (rw n.same at c.ends.ensures) c.if-not-ends.false)
     (rw n.same at (sym c.all_done.ensures) ∙ c.if-all_done.false) c.in-Some.passed c.in-Some.ensures
-    (rw c.elapsed_of.ensures at c.if-rests.false))
+    (rw c.elapsed_of.ensures at c.if-elapsed_fits.false))
