@@ -85,7 +85,8 @@ fn step_in(sheet: &JobSheet, rows: &Rows<'_>, desk: Desk, byte: u8) -> Result<De
     Ok(Desk::from(next))
 }
 
-// The sheet of a good file.
+// The sheet of a good file. On its own, so that its stack is gone when the event is looked at.
+#[inline(never)]
 fn sheet_of(file: &[u8]) -> JobSheet
     requires { GoodFile file.now }
     ensures { (σ : Sheet) (rows : List Entry) → Says file.now (good σ rows) → result ≡ σ }
