@@ -1,10 +1,11 @@
 -- Bytes in their places: what is written is read, what is read was written, and the rest is left. Assumes nothing.
-use Rattle.std.specs.Prelude.{ℕ, zero, suc, ◌+◌, ◌-◌, ◌/◌, ◌%◌, ◌^◌, ◌≤◌, ◌<◌, ◌≡◌, refl, List, [], ◌∷◌, ◌++◌, length, get_or, take, replicate}
+use Rattle.std.specs.Prelude.{ℕ, zero, suc, ◌+◌, ◌-◌, ◌/◌, ◌%◌, ◌^◌, ◌≤◌, ◌<◌, ◌≡◌, refl, List, [], ◌∷◌, ◌++◌, length, get_or, set, take, replicate}
 use Rattle.std.specs.Int.{w32, to_le_bytes}
 use Rattle.std.proofs.Common.{arith, add_assoc, zero-add, sym, ap, ◌∙◌, length-append, ext_get_or, get_or-append-add}
 use Rattle.std.proofs.Math.Decide.{dec_lt}
 use Rattle.std.proofs.lemmas.List.{length-replicate, get_or-replicate}
 use Rattle.std.proofs.Math.ListN.{get_or-append}
+use Rattle.std.proofs.Math.Seq.{paste, paste-suc}
 use Rattle.blocks.specs.Bytes.{EachByte, le16, le32, u16_at, u32_at}
 
 pub take_bytes : (n : ℕ) (s : List ℕ) → EachByte s → EachByte (take n s)
@@ -81,6 +82,19 @@ module _ (s : List ℕ) (p : ℕ) where
   le32_of_u32 small (suc (suc zero)) h = omega (arith, small p, small (p + 1), small (p + 2), small (p + 3))
   le32_of_u32 small (suc (suc (suc zero))) h = omega (arith, small p, small (p + 1), small (p + 2), small (p + 3))
   le32_of_u32 small (suc (suc (suc (suc j)))) h = absurd (omega arith)
+
+-- one zero more
+pub zero_more : (s : List ℕ) (at end p : ℕ) → at ≤ p → p < end → end ≤ length s
+    → set (paste s at (replicate (end - at) 0) (p - at)) p 0 ≡ paste s at (replicate (end - at) 0) (p + 1 - at)
+zero_more s at end p a b c =
+    let z : List ℕ = replicate (end - at) 0 in
+    let t : List ℕ = paste s at z (p - at) in
+    let d : p ≡ at + (p - at) = omega arith in
+    let v : get_or z (p - at) 0 ≡ 0 = get_or-replicate {A = ℕ} (end - at) (p - at) 0 0 (omega arith) in
+    let e : suc (p - at) ≡ p + 1 - at = omega arith in
+    ap (λ (k : ℕ). set t k 0) d
+    ∙ (ap (λ (x : ℕ). set t (at + (p - at)) x) (sym v)
+    ∙ (paste-suc s at z (p - at) 0 (omega arith) (omega (arith, length-replicate {A = ℕ} (end - at) 0)) ∙ ap (λ (k : ℕ). paste s at z k) e))
 
 -- std's bytes of a number are these
 pub le32_bytes : (x : ℕ) → x < 2 ^ 32 → to_le_bytes w32 x ≡ le32 x

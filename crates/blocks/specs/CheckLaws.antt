@@ -1,7 +1,7 @@
 -- The check: the bytes passed from the last down, and how large it can be. Assumes nothing.
-use Rattle.std.specs.Prelude.{ℕ, zero, suc, ◌+◌, ◌*◌, ◌≤◌, ◌≡◌, refl, List, [], ◌∷◌, ◌++◌, length, get_or}
-use Rattle.std.proofs.Common.{arith, mul-le-mul_left, suc-mul, ap, append-nil, append_assoc, length-append, get_or-append-add, sym, ◌∙◌}
-use Rattle.blocks.specs.Sizes.{body_bytes, most_check}
+use Rattle.std.specs.Prelude.{ℕ, zero, suc, ◌+◌, ◌-◌, ◌*◌, ◌≤◌, ◌<◌, ◌≡◌, refl, List, [], ◌∷◌, ◌++◌, length, get_or, take, drop}
+use Rattle.std.proofs.Common.{arith, mul-le-mul_left, suc-mul, ap, append-nil, append_assoc, length-append, get_or-append-add, sym, ◌∙◌, length-take, drop_of_length-le, drop-cons, get_or-take}
+use Rattle.blocks.specs.Sizes.{block_bytes, body_bytes, most_check}
 use Rattle.blocks.specs.Bytes.{weighted, check_of, EachByte}
 
 -- the bytes, each counted once
@@ -64,6 +64,57 @@ counted_all {body} {left} {sum} {sums} c n = c.often ∙ ap check_of (sym (c.who
     gone : (left : List ℕ) → length left ≡ 0 → left ++ c.passed ≡ c.passed
     gone [] n = refl
     gone (b ∷ left) n = absurd (omega arith)
+
+-- The same by the place that the passing has come down to -----------------------------------------------------------------
+
+-- the byte before `p` comes to those from `p` on
+module _ (s : List ℕ) (p : ℕ) (z : 0 < p) (h : p ≤ length s) where
+  up : suc (p - 1) ≡ p
+  up = omega arith
+
+  cons : drop (p - 1) s ≡ get_or s (p - 1) 0 ∷ drop p s
+  cons = rw up at (drop-cons s (p - 1) 0 (omega arith))
+
+  sum_before : sum_of (drop (p - 1) s) ≡ get_or s (p - 1) 0 + sum_of (drop p s)
+  unfolding sum_of
+  sum_before = rw cons refl
+
+  weighted_before : weighted 1 (drop (p - 1) s) ≡ get_or s (p - 1) 0 + weighted 1 (drop p s) + sum_of (drop p s)
+  unfolding weighted
+  weighted_before = rw (cons, weighted_suc 1 (drop p s)) (omega arith)
+
+-- a turn: the byte is added to the sum, and the sum to the sums
+module _ (block : List ℕ) (p sum b : ℕ) (h : p ≤ body_bytes) (z : 0 < p) (l : length block ≡ block_bytes)
+    (s : sum ≡ sum_of (drop p (take body_bytes block))) (q : b ≡ get_or block (p - 1) 0) where
+  byte : b ≡ get_or (take body_bytes block) (p - 1) 0
+  byte = q ∙ sym (get_or-take body_bytes block (p - 1) 0 (omega arith))
+
+  inside : p ≤ length (take body_bytes block)
+  inside = omega (arith, length-take body_bytes block)
+
+  pub sum_down : sum + b ≡ sum_of (drop (p - 1) (take body_bytes block))
+  sum_down = omega (arith, s, byte, sum_before (take body_bytes block) p z inside)
+
+  pub sums_down : (sums : ℕ) → sums ≡ 1 + weighted 1 (drop p (take body_bytes block)) → sums + (sum + b) ≡ 1 + weighted 1 (drop (p - 1) (take body_bytes block))
+  sums_down sums e = omega (arith, s, byte, weighted_before (take body_bytes block) p z inside)
+
+-- before the first turn no byte is counted
+module _ (block : List ℕ) (p : ℕ) (h : body_bytes ≤ p) where
+  none : drop p (take body_bytes block) ≡ []
+  none = drop_of_length-le (take body_bytes block) {i = p} (omega (arith, length-take body_bytes block))
+
+  pub sum_none : (sum : ℕ) → sum ≡ 0 → sum ≡ sum_of (drop p (take body_bytes block))
+  unfolding sum_of
+  sum_none sum e = rw none e
+
+  pub sums_none : (sums : ℕ) → sums ≡ 1 → sums ≡ 1 + weighted 1 (drop p (take body_bytes block))
+  unfolding weighted
+  sums_none sums e = rw none e
+
+-- after the last all are
+pub all_counted : (s : List ℕ) (p : ℕ) → p ≤ 0 → drop p s ≡ s
+all_counted s zero h = refl
+all_counted s (suc p) h = absurd (omega arith)
 
 -- k + (k + 1) + .., n numbers
 unfoldable weights : ℕ → ℕ → ℕ

@@ -20,7 +20,7 @@ use Rattle.state.specs.Tell.{told_yes}
 use Rattle.state.specs.declared.event.Event.{Event}
 use Rattle.table.specs.Reading.{good}
 use Rattle.table.specs.Replies.{told, lookup}
-use Rattle.table.specs.RowLaws.{lookup_none, lookup_found}
+use Rattle.table.specs.RowLaws.{lookup_none, lookup_is}
 use Rattle.table.specs.declared.row.RowReply.{RowReply}
 use Rattle.desk.specs.Stepping.{state_in, known, on, names, stays, in_row, asked, step_reply}
 use Rattle.desk.specs.Stages.{Standing, MovesOn}
@@ -60,7 +60,7 @@ module _ (σ : Sheet) (rows : List Entry) (d : Desk) (x : ℕ) where
     pub at_row : (p : State × Row) → Ascending rows → Standing rows d (Ok p) → (r : Stepped) → r ≡ in_row σ d (told (entry_of p.1)) (event_in_rules e)
         → r ≡ step_reply d x (good σ rows)
     at_row p a w r f =
-        let found = lookup_found rows (word (state_in d)) w.0 a (w.1, w.2) in
+        let found = lookup_is rows (word (state_in d)) w.0 a (w.1, w.2) in
         let row : r ≡ in_row σ d (told (at rows w.0)) (event_in_rules e) = f ∙ ap (λ (y : Entry). in_row σ d (told y) (event_in_rules e)) w.3 in
         rw (is, n, is_true (is_known d.statuses) (known_on p.0 d w.4), found) row
 
@@ -70,5 +70,5 @@ pub moves_on : (σ : Sheet) (rows : List Entry) → Good σ → GoodRows σ rows
 moves_on σ rows g form d b p w e n = (
   job_fits σ g.few_jobs e n,
   (λ h a. fits_in σ rows g form d b (known_on p.0 d w.4) (told (entry_of p.1))
-      (ap told w.3 ∙ sym (lookup_found rows (word (state_in d)) w.0 form.ascending (w.1, w.2))) refl e p.0 w.4 n (rw w.4 at h) a),
+      (ap told w.3 ∙ sym (lookup_is rows (word (state_in d)) w.0 form.ascending (w.1, w.2))) refl e p.0 w.4 n (rw w.4 at h) a),
 )

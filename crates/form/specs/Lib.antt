@@ -7,3 +7,4 @@ pub mod TestLaws
 pub mod PassLaws
 pub mod RowRight
 pub mod RowAnswers
+pub mod Loops

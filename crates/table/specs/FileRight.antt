@@ -1,21 +1,28 @@
 -- What the tests of block 0 and of a block more tell of the blocks read. Assumes nothing.
-use Rattle.std.specs.Prelude.{ℕ, suc, ◌+◌, ◌-◌, ◌%◌, ◌≤◌, ◌<◌, ◌≡◌, refl, List, [], length}
+use Rattle.std.specs.Prelude.{ℕ, suc, ◌+◌, ◌-◌, ◌%◌, ◌≤◌, ◌<◌, ◌≡◌, refl, List, [], length, get_or}
 use Rattle.std.proofs.Common.{arith, inl, inr}
 use Rattle.std.proofs.Math.Decide.{dec_le, ℕ_discrete}
+use Rattle.sheet.specs.declared.Job.{Job}
 use Rattle.sheet.specs.Model.{Sheet}
+use Rattle.sheet.specs.Arrays.{sheet_of}
+use Rattle.blocks.specs.Fields.{slot_at, job_from}
+use Rattle.blocks.specs.Tab.{tab}
 use Rattle.sheet.specs.Table.{Entry}
-use Rattle.blocks.specs.Sizes.{block_bytes}
+use Rattle.blocks.specs.Sizes.{block_bytes, most_jobs}
 use Rattle.blocks.specs.Bytes.{EachByte}
 use Rattle.form.specs.BlockTest.{RowsBlock, JobsBlock, jobs_in}
 use Rattle.table.specs.Reading.{total, block_at, Sized, Reads, GoodTo, good, bad, Says}
 use Rattle.table.specs.ReadingLaws.{good_below}
 use Rattle.table.specs.BlockRight.{before, goes_on, went_on}
-use Rattle.table.specs.JobsRight.{jobs_open, opens_jobs}
+use Rattle.table.specs.JobsRight.{sheet_in, jobs_open, opens_jobs}
 use Rattle.table.specs.Judging.{Opens}
 
 -- the blocks below b are read
 abbrev pub SoFar : List ℕ → ℕ → Type 0
 SoFar file b = (k : ℕ) × (rows : List Entry) × (b ≡ suc k) × Reads file k (jobs_in (block_at file 0)) rows
+
+pub sheet_is : (block : List ℕ) (js : List Job) (n : ℕ) → js ≡ tab most_jobs (λ s. job_from block (slot_at s)) → n ≡ get_or block 3 0 → n ≤ 8 → sheet_of js n ≡ jobs_in block
+sheet_is block js n e d h = rw (e, ← d) (sheet_in block n h)
 
 module _ (file : List ℕ) where
   pub sized_of : length file % block_bytes ≡ 0 → 1024 ≤ length file → length file ≤ 65536 → Sized file

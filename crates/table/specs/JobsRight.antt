@@ -2,17 +2,23 @@
 use Rattle.std.specs.Prelude.{ℕ, zero, suc, ◌-◌, ◌≤◌, ◌<◌, ◌≡◌, refl, List, [], length, get_or}
 use Rattle.std.proofs.Common.{arith}
 use Rattle.sheet.specs.Model.{no_job}
-use Rattle.blocks.specs.Sizes.{slot_bytes}
+use Rattle.sheet.specs.Arrays.{sheet_of}
+use Rattle.blocks.specs.Sizes.{slot_bytes, most_jobs}
 use Rattle.blocks.specs.Bytes.{EachByte}
 use Rattle.blocks.specs.File.{job_slot, block_for}
 use Rattle.blocks.specs.Fields.{slot_at, job_from}
-use Rattle.blocks.specs.TabLaws.{length_tab, get_or_tab}
+use Rattle.blocks.specs.Tab.{tab}
+use Rattle.blocks.specs.TabLaws.{length_tab, get_or_tab, take_tab}
 use Rattle.blocks.specs.BlockLaws.{framed}
 use Rattle.blocks.specs.SlotLaws.{jobs_made}
 use Rattle.form.specs.BlockTest.{JobsBlock, jobs_in}
 use Rattle.table.specs.Reading.{total, block_at, Sized, Reads, GoodTo}
 use Rattle.table.specs.ReadingLaws.{jobs_count, job_there}
 use Rattle.table.specs.BlockRight.{small_block}
+
+-- the first n of the jobs of the first eight slots
+pub sheet_in : (block : List ℕ) (n : ℕ) → n ≤ most_jobs → sheet_of (tab most_jobs (λ s. job_from block (slot_at s))) n ≡ tab n (λ s. job_from block (slot_at s))
+sheet_in block n h = take_tab n most_jobs (λ s. job_from block (slot_at s)) h
 
 -- a block that passes opens a reading
 pub jobs_open : (file : List ℕ) → Sized file → EachByte file → JobsBlock (total file) (block_at file 0) → Reads file 0 (jobs_in (block_at file 0)) []

@@ -1,6 +1,6 @@
 -- The 32 numbers of block 0, and what listing replies. Assumes nothing.
-use Rattle.std.specs.Prelude.{ℕ, zero, suc, ◌+◌, ◌-◌, ◌*◌, ◌/◌, ◌%◌, ◌≤◌, ◌<◌, ◌≡◌, refl, List, length, get_or}
-use Rattle.std.proofs.Common.{arith, sym, ap, ◌∙◌, ext_get_or}
+use Rattle.std.specs.Prelude.{ℕ, zero, suc, ◌+◌, ◌-◌, ◌*◌, ◌/◌, ◌%◌, ◌≤◌, ◌<◌, ◌≡◌, refl, List, length, get_or, set}
+use Rattle.std.proofs.Common.{arith, sym, ap, subst, ◌∙◌, ext_get_or, get_or-set_same, get_or-set_other}
 use Rattle.std.proofs.Math.Decide.{dec_lt}
 use Rattle.std.proofs.Math.ListN.{get_or-eq_default}
 use Rattle.plant.specs.Reflect.{is_le, is_and, is_true, is_false}
@@ -17,6 +17,9 @@ use Rattle.blocks.specs.TabLaws.{length_tab, get_or_tab}
 use Rattle.table.specs.Reading.{block_at, good, Says}
 use Rattle.table.specs.ReadingLaws.{in_first, jobs_framed, job_there}
 use Rattle.table.specs.Replies.{Answers, number_of, numbers_of, unlisted, listing_reply}
+
+pub numbers_tab : (out : List ℕ) (n : ℕ) (f : ℕ → ℕ) → length out ≡ n → ((k : ℕ) → k < n → get_or out k 0 ≡ f k) → out ≡ tab n f
+numbers_tab out n f l e = ext_get_or 0 out (tab n f) (l ∙ sym (length_tab n f)) (λ i h. e i (omega arith) ∙ sym (get_or_tab n f 0 i (omega arith)))
 
 module _ {file : List ℕ} {σ : Sheet} {rows : List Entry} (s : Says file (good σ rows)) where
   number_there : (i : ℕ) → i < 32 → u16_at file (header_bytes + 2 * i) ≡ number_of (get_or σ (i / 4) no_job) (i % 4)
@@ -55,9 +58,23 @@ module _ {file : List ℕ} {σ : Sheet} {rows : List Entry} (s : Says file (good
       (λ i h. let l : i < 32 = omega (arith, length_tab 32 (λ i. u16_at file (header_bytes + 2 * i))) in
       get_or_tab 32 (λ i. u16_at file (header_bytes + 2 * i)) 0 i l ∙ (number_there i l ∙ sym (get_or_tab 32 (λ i. number_of (get_or σ (i / 4) no_job) (i % 4)) 0 i l)))
 
+-- a turn of the loop that fills an array
+pub fill_turn : (out : List ℕ) (f : ℕ → ℕ) (i v : ℕ) → i < length out → v ≡ f i → ((k : ℕ) → k < i → get_or out k 0 ≡ f k) → (k : ℕ) → k < i + 1 → get_or (set out i v) k 0 ≡ f k
+fill_turn out f i v h e g k l = go (dec_lt k i)
+  where
+    go : Dec (k < i) → get_or (set out i v) k 0 ≡ f k
+    go (yes q) = get_or-set_other out i k v 0 (λ d. omega arith) ∙ g k q
+    go (no q) = let d : i ≡ k = omega arith in subst (λ (x : ℕ). get_or (set out i v) x 0 ≡ f x) d (get_or-set_same out i v 0 h ∙ e)
+
 module _ {file : List ℕ} {σ : Sheet} {rows : List Entry} (s : Says file (good σ rows)) (i : ℕ) where
   pub list_none : ¬ ((1 ≤ i) × (i ≤ length rows)) → Answers file (listing_reply i) (unlisted 8 0)
   list_none n = (good σ rows, s, rw (is_false (is_and (is_le 1 i) (is_le i (length rows))) n) refl)
+
+  pub list_low : i < 1 → Answers file (listing_reply i) (unlisted 8 0)
+  list_low h = list_none (λ n. omega (arith, n.0))
+
+  pub list_high : 1 ≤ i → length rows < i → Answers file (listing_reply i) (unlisted 8 0)
+  list_high l h = list_none (λ n. omega (arith, n.1))
 
   pub list_found : (n count : ℕ) (numbers : List ℕ) (r : Row) → n ≡ length σ → count ≡ length rows → numbers ≡ tab 32 (λ m. u16_at file (header_bytes + 2 * m))
       → entry_of r ≡ at rows (i - 1) → 1 ≤ i → i ≤ length rows

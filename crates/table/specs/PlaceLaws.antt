@@ -1,5 +1,5 @@
 -- Rows found in their places. Assumes nothing.
-use Rattle.std.specs.Prelude.{ℕ, zero, suc, ◌+◌, ◌-◌, ◌*◌, ◌/◌, ◌%◌, ◌≤◌, ◌<◌, ◌≡◌, refl, ◌≢◌, List, length, get_or, drop, None}
+use Rattle.std.specs.Prelude.{ℕ, zero, suc, ◌+◌, ◌-◌, ◌*◌, ◌/◌, ◌%◌, ◌≤◌, ◌<◌, ◌≡◌, refl, ◌≢◌, List, length, get_or, drop, None, Some}
 use Rattle.std.proofs.Common.{arith, sym, ap, subst, ◌∙◌, length-take, length-drop}
 use Rattle.std.proofs.Math.Decide.{dec_lt}
 use Rattle.sheet.specs.declared.Job.{Job}
@@ -138,3 +138,6 @@ found_none l w p lo hi ne a j h e = other (dec_lt j p) (dec_lt p j)
     other (yes q) d = omega (arith, lo j q)
     other (no q) (yes d) = omega (arith, a p j d h, hi p (omega arith) (omega arith))
     other (no q) (no d) = let g : p ≡ j = omega arith in subst (λ (x : ℕ). (at l x).word ≢ w) g (ne (omega arith)) e
+
+pub found_at : (l : List Entry) (w p : ℕ) → p < length l → (at l p).word ≡ w → Finds l w (Some p)
+found_at l w p h e = (h, e)

@@ -39,7 +39,8 @@ fn job_slot(job: Job) -> [u8; SLOT]
     ]
 }
 
-// A row's slot: its word, starts and tick code, and two zeros. A mark's two low bytes are the starts and the tick code.
+// A row's slot: its word, starts and tick code, and two zeros. A mark's two low bytes are the starts and the tick code: it is one number,
+// since the work slice that notes it is one of numbers.
 pub fn row_slot(word: u32, mark: u32) -> [u8; SLOT]
     ensures { result ≡ row_slot (row_of word mark) }
 {
