@@ -24,7 +24,8 @@ use Rattle.state.specs.declared.word.State as by_value
 use Rattle.table.specs.Replies.{lookup}
 use Rattle.table.specs.declared.row.RowReply.{RowReply}
 use Rattle.desk.specs.Stepping.{state_in, names, allows}
-use Rattle.desk.specs.Moving.{JobFits, FitsIn}
+use Rattle.after.specs.Events.{FitsIn}
+use Rattle.desk.specs.Moving.{JobFits}
 use Rattle.desk.specs.StepLaws.{lookup_some}
 use Rattle.desk.specs.declared.desk.Desk.{Desk}
 

@@ -1,9 +1,7 @@
 -- What the code asks of an event before it goes on, case by case.
-use Rattle.std.specs.Prelude.{◌<◌}
 use Rattle.plant.specs.Range.{In}
 use Rattle.state.specs.declared.event.Event.{Event}
 use Rattle.state.specs.declared.event.Event.TheVariants.{Tick, Arrival, Start, Ending}
-use Rattle.state.specs.declared.word.State.{State}
 
 -- the job is 1 to 8
 abbrev pub JobFits : Event → Type 0
@@ -11,10 +9,3 @@ JobFits Tick = Unit {0}
 JobFits (Arrival k) = In 8 k
 JobFits (Start k) = In 8 k
 JobFits (Ending k) = In 8 k
-
--- and after the tick both clocks are bytes
-abbrev pub FitsIn : State → Event → Type 0
-FitsIn s Tick = (s.now < 255) × (s.elapsed.0 < 255)
-FitsIn s (Arrival k) = In 8 k
-FitsIn s (Start k) = In 8 k
-FitsIn s (Ending k) = In 8 k

@@ -15,7 +15,8 @@ use Rattle.blocks.specs.Rows.{entry_of}
 use Rattle.blocks.specs.declared.row.Row.{Row}
 use Rattle.table.specs.Replies.{told}
 use Rattle.desk.specs.Stepping.{state_in, on, names, allows, stays, moves, in_row}
-use Rattle.desk.specs.Moving.{JobFits, FitsIn}
+use Rattle.after.specs.Events.{FitsIn}
+use Rattle.desk.specs.Moving.{JobFits}
 use Rattle.desk.specs.declared.desk.Desk.{Desk}
 use Rattle.desk.specs.declared.step.Stepped.{Stepped}
 

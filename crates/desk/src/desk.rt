@@ -33,10 +33,7 @@ impl TryFrom<Desk> for State {
     ghost try_from_gives = { IsStateOn };
 
     fn try_from(desk: Desk) -> Result<State, UnknownStatus> {
-        let mut statuses = [Status::Coming; 8];
-        for (i, byte) in desk.statuses.iter().enumerate() {
-            statuses[i] = Status::try_from(*byte)?;
-        }
+        let statuses = desk.statuses.try_map(|byte| Status::try_from(byte))?;
         Ok(State {
             now: desk.now,
             elapsed: Elapsed(desk.elapsed),

@@ -10,7 +10,8 @@ ghost use Rattle.desk.specs.Stepping.{step_reply, step_reply_of};
 ghost use Rattle.desk.specs.Stages.{Named, Standing, MovesOn, Moved};
 
 use crate::desk::Desk;
-use crate::moves::{after, allowed, may, names};
+use crate::moves::{allowed, may, names};
+use after::after;
 use blocks::block::as_block;
 use blocks::row::Row;
 use blocks::sizes::BLOCK;
@@ -41,23 +42,20 @@ pub struct Stepped {
 fn named(sheet: &JobSheet, byte: u8) -> Result<Event, Refusal>
     ensures { Named sheet.now byte result }
 {
-    match Event::try_from(byte) {
-        Ok(event) if names(sheet, event) => Ok(event),
-        _ => Err(Refusal::NoJob),
+    let event = Event::try_from(byte).map_err(|_| Refusal::NoJob)?;
+    if !names(sheet, event) {
+        return Err(Refusal::NoJob);
     }
+    Ok(event)
 }
 
 // The state on the desk, with its row.
 fn standing(rows: &Rows<'_>, desk: Desk) -> Result<(State, Row), Refusal>
     ensures { Standing rows.now desk result }
 {
-    let Ok(s) = State::try_from(desk) else {
-        return Err(Refusal::NoRow);
-    };
-    match rows.find(s.word()) {
-        Some(i) => Ok((s, rows.row(i))),
-        None => Err(Refusal::NoRow),
-    }
+    let s = State::try_from(desk).map_err(|_| Refusal::NoRow)?;
+    let i = rows.find(s.word()).ok_or(Refusal::NoRow)?;
+    Ok((s, rows.row(i)))
 }
 
 // The state that the event leads to, where it is possible and its row allows it.
@@ -85,7 +83,8 @@ fn step_in(sheet: &JobSheet, rows: &Rows<'_>, desk: Desk, byte: u8) -> Result<De
     Ok(Desk::from(next))
 }
 
-// The sheet of a good file.
+// The sheet of a good file. On its own, so that its stack is gone when the event is looked at.
+#[inline(never)]
 fn sheet_of(file: &[u8]) -> JobSheet
     requires { GoodFile file.now }
     ensures { (σ : Sheet) (rows : List Entry) → Says file.now (good σ rows) → result ≡ σ }

@@ -20,12 +20,14 @@ state_part n q = clock_part q.now ++ (clock_part q.elapsed ++ (statuses_text n q
 abbrev pub marks_part : ℕ → ℕ → ℕ → List ℕ
 marks_part n starts tick = or_dash (jobs_text n starts) ++ (space ∷ (tick_word tick ++ (line_end ∷ [])))
 
--- the most bytes of each: two clocks of three digits, eight statuses, three spaces; eight jobs, a space, four letters, the end
+-- the most bytes of a clock: three digits and a space
 abbrev pub clock_bytes : ℕ
 clock_bytes = 4
 
+-- of a state: two clocks, eight statuses and a space
 abbrev pub state_bytes : ℕ
 state_bytes = 17
 
+-- of the marks: eight jobs, a space, four letters and the line's end
 abbrev pub marks_bytes : ℕ
 marks_bytes = 14

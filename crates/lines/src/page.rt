@@ -1,11 +1,8 @@
 // A page, what is put on it in bytes and numbers, and the lines of two numbers.
 ghost use Rattle.std.specs.Prelude.{◌≡◌, [], ◌∷◌, ◌+◌, ◌≤◌, length};
-ghost use Rattle.state.specs.Refusals.{refusal_number, refusal_detail};
 ghost use Rattle.lines.specs.Digits.{digit, decimal};
 ghost use Rattle.lines.specs.Lines.{line_bytes, header_line, refusal_text};
 ghost use Rattle.lines.specs.Parts.{pair_line};
-
-use state::refusal::Refusal;
 
 // A lent slice that is filled from the front on, up to `end`.
 #[derive(Drop)]
@@ -53,7 +50,8 @@ impl Page<'_> {
         self.put(&[b'0' + d]);
     }
 
-    // Puts a number in decimal: the digits of its tenth, where that is not 0, and its last digit behind them.
+    // Puts a number in decimal: the digits of its tenth, where that is not 0, and its last digit behind them. By hand: what is printed is
+    // promised byte by byte, and the contracts of `fmt` promise nothing of it.
     pub(crate) fn put_number(&mut self, n: u32)
         requires { HasRoom self.old (length (decimal n)) }
         ensures { Adds self.old (decimal n) self.new }
@@ -85,10 +83,10 @@ impl Page<'_> {
     }
 
     // Prints a refusal: its number and detail.
-    pub fn put_refusal(&mut self, refusal: Refusal)
+    pub fn put_refusal(&mut self, number: u32, detail: u32)
         requires { HasRoom self.old line_bytes }
-        ensures { Adds self.old (refusal_text (refusal_number refusal) (refusal_detail refusal)) self.new }
+        ensures { Adds self.old (refusal_text number detail) self.new }
     {
-        self.put_pair(b"refused ", refusal.number(), b" ", refusal.detail());
+        self.put_pair(b"refused ", number, b" ", detail);
     }
 }

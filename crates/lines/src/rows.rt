@@ -16,6 +16,7 @@ use state::bits::has;
 use state::status::Status;
 use state::word::State;
 
+// `n ≤ most_jobs` stays a clause: n is the file's byte of jobs, and a type of its own would be made by a proof for one call.
 impl Page<'_> {
     // Prints the statuses of the first n jobs, a digit each.
     fn put_statuses(&mut self, statuses: [Status; 8], n: u8)
@@ -59,7 +60,7 @@ impl Page<'_> {
         }
     }
 
-    // Prints what a tick code says.
+    // Prints what a tick code says. A byte and no enum: any byte can stand in a row that is printed.
     fn put_tick(&mut self, tick: u8)
         requires { HasRoom self.old (length (tick_word tick)) }
         ensures { Adds self.old (tick_word tick) self.new }

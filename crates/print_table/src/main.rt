@@ -10,7 +10,7 @@ use printing::{MOST_PRINTED, MOST_READ};
 use std::io::{self, Read};
 
 // Reads until the slice is full or the input ends, and answers how many bytes that is. By hand: of an input that ends early `read_exact` says
-// too little.
+// too little, and a turn goes on behind what the one before it read.
 fn read_text<R: Read>(input: &mut R, text: &mut [u8]) -> io::Result<usize>
     ensures bound { ReadsAtMost result text.new }
     ensures room { length text.new ≡ length text.old }

@@ -37,6 +37,7 @@ most_printed = line_bytes * suc most_rows
 abbrev pub SheetPrintsOn : (numbers : List ℕ) (before after : Page) → Type 0
 SheetPrintsOn numbers before after = (printed : List ℕ) × SheetText numbers printed × Adds before printed after
 
+-- the same of what is printed for a text
 abbrev pub PrintsOn : (text : List ℕ) (before after : Page) → Type 0
 PrintsOn text before after = (printed : List ℕ) × Prints text printed × Adds before printed after
 

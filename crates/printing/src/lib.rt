@@ -34,7 +34,7 @@ fn put_sheet(page: &mut Page<'_>, numbers: &[u16])
     let mut file = [0u8; FILE];
     match make_file(numbers, &mut work, &mut file) {
         Ok(length) => put_listing(page, &file[..length as usize]),
-        Err(refusal) => page.put_refusal(refusal),
+        Err(refusal) => page.put_refusal(refusal.number(), refusal.detail()),
     }
 }
 
@@ -45,7 +45,7 @@ fn put_text(page: &mut Page<'_>, text: &[u8])
 {
     match parse(text) {
         Some(numbers) => put_sheet(page, numbers.as_slice()),
-        None => page.put_refusal(Refusal::NoSheet),
+        None => page.put_refusal(Refusal::NoSheet.number(), Refusal::NoSheet.detail()),
     }
 }
 

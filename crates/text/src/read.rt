@@ -52,6 +52,7 @@ fn end_of(k: usize) -> u8
 }
 
 // The number of one to three digits in front of a text, with the byte `end` behind it. Digits are passed; the first other byte decides.
+// By hand: `str::parse` takes a sign and any number of digits.
 fn number_in_front(text: &[u8], end: u8) -> Option<Field>
     requires { ¬ (Digit end) }
     ensures { FoundTo end text.now result }
@@ -74,6 +75,7 @@ fn number_in_front(text: &[u8], end: u8) -> Option<Field>
 }
 
 // Reads a text as a sheet. Number after number is taken with the byte that has to stand behind it, so the text has one reading at most.
+// No `for`: each turn goes on behind the number that it read.
 pub fn parse(text: &[u8]) -> Option<Numbers>
     ensures { Reads text.now result }
 {

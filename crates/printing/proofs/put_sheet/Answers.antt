@@ -23,4 +23,4 @@ returns-in-Ok c =
 
 pub returns-in-Err : goal.returns-in-Err
 returns-in-Err c =
-    (_, made_refused c.in-Err.ensures c.requires.0 (search rules) (search rules) (refusal_some c.in-Err.refusal), c.put_refusal.ensures)
+    (_, made_refused c.in-Err.ensures c.requires.0 (search rules) (search rules) (refusal_some c.in-Err.refusal), rw (c.number.ensures, c.detail.ensures) at c.put_refusal.ensures)

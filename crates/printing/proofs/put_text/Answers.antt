@@ -13,4 +13,4 @@ returns-in-Some c =
     (e.0, inl (c.in-Some.numbers, c.in-Some.ensures, rw c.as_slice.ensures at e.1), e.2)
 
 pub returns-in-None : goal.returns-in-None
-returns-in-None c = (_, inr (c.in-None.ensures, refl), c.put_refusal.ensures)
+returns-in-None c = (_, inr (c.in-None.ensures, refl), rw (c.number.ensures, c.detail.ensures) at c.put_refusal.ensures)

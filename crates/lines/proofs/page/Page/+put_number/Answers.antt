@@ -22,7 +22,7 @@ pub returns : goal.returns
 returns t c =
     elim c.if-n-ge10.branch [
       | then-n-ge10 w ↦ rw (more_digits c.args.n w.if-n-ge10.true) (adds_then w.put_number.ensures (rw w.self-is at c.put_digit.ensures))
-      | else-n-ge10 w ↦
-          let e : c.args.n % 10 ≡ c.args.n = omega (arith, w.if-n-ge10.false) in
-          rw (one_digit c.args.n w.if-n-ge10.false, ← e, ← w.self-is) c.put_digit.ensures
+      | else-n-ge10 d ↦
+          let e : c.args.n % 10 ≡ c.args.n = omega (arith, d.if-n-ge10.false) in
+          rw (one_digit c.args.n d.if-n-ge10.false, ← e, ← d.self-is) c.put_digit.ensures
     ]
