@@ -12,15 +12,12 @@ ghost use Rattle.desk.specs.Stages.{Named, Standing, MovesOn, Moved};
 use crate::desk::Desk;
 use crate::moves::{allowed, may, names};
 use after::after;
-use blocks::block::as_block;
 use blocks::row::Row;
-use blocks::sizes::BLOCK;
-use form::block::sheet_in;
 use state::event::Event;
 use state::jobs::JobSheet;
 use state::refusal::Refusal;
 use state::word::State;
-use table::judge::{PAST_ALL, read_for};
+use table::judge::{PAST_ALL, read_for, sheet_of};
 use table::place::Rows;
 
 // A step's answer to C: number and detail. Its only result is the desk.
@@ -81,15 +78,6 @@ fn step_in(sheet: &JobSheet, rows: &Rows<'_>, desk: Desk, byte: u8) -> Result<De
     let (s, row) = standing(rows, desk)?;
     let next = moved(sheet, s, row, event)?;
     Ok(Desk::from(next))
-}
-
-// The sheet of a good file. On its own, so that its stack is gone when the event is looked at.
-#[inline(never)]
-fn sheet_of(file: &[u8]) -> JobSheet
-    requires { GoodFile file.now }
-    ensures { (σ : Sheet) (rows : List Entry) → Says file.now (good σ rows) → result ≡ σ }
-{
-    sheet_in(as_block(&file[..BLOCK]))
 }
 
 // The desk after the event, of any bytes: the whole file is read first.
