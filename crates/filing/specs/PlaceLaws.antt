@@ -4,8 +4,7 @@ use mathlib.Core.List.Memᴰ
 use mathlib.Core.List.{Memᴰ}
 use Rattle.std.proofs.Common.{arith, ⊎_elim, length-take, length-drop}
 use Rattle.places.specs.Places.{most_live}
-use Rattle.order.specs.Deal.{Lent}
-use Rattle.filing.specs.Filing.{PlacesIn}
+use Rattle.order.specs.Deal.{PlacesIn}
 
 member : (l : List ℕ) (i : ℕ) → i < length l → Memᴰ (get_or l i 0) l
 member [] i h = absurd (omega arith)
@@ -32,7 +31,3 @@ part_in {s} {l} x n k = record {
   words = x.words;
   each = λ p m. x.each p (in_drop k l p (in_take n (drop k l) p m));
 }
-
--- those that stand at the front of an array
-pub places_lent : (n : ℕ) (s both : List ℕ) → Lent n s both → PlacesIn s (take n both)
-places_lent n s both x = record { room = omega (arith, length-take n both, x.room); words = x.words; each = x.places }

@@ -6,7 +6,8 @@ ghost use Rattle.std.specs.Prelude.{◌≡◌, ◌++◌, map, ◌≤◌, ◌<◌
 ghost use Rattle.places.specs.Places.{most_live, work_words};
 ghost use Rattle.blocks.specs.Sizes.{block_bytes, block_slots};
 ghost use Rattle.blocks.specs.File.{block_of, row_slot, blocks_of, bytes_of};
-ghost use Rattle.filing.specs.Filing.{entry_at, entries_at, PlacesIn};
+ghost use Rattle.order.specs.Deal.{PlacesIn};
+ghost use Rattle.filing.specs.Filing.{entry_at, entries_at};
 
 use blocks::header::Header;
 use blocks::put::put;
