@@ -27,13 +27,17 @@ impl From<State> for Desk {
 }
 
 // The state on the desk. One with a status above 3 stands for none: the first that is above ends the search.
+// A loop: tried with `try_map`, a step then takes more stack than the header says.
 impl TryFrom<Desk> for State {
     type Error = UnknownStatus;
 
     ghost try_from_gives = { IsStateOn };
 
     fn try_from(desk: Desk) -> Result<State, UnknownStatus> {
-        let statuses = desk.statuses.try_map(|byte| Status::try_from(byte))?;
+        let mut statuses = [Status::Coming; 8];
+        for (i, byte) in desk.statuses.iter().enumerate() {
+            statuses[i] = Status::try_from(*byte)?;
+        }
         Ok(State {
             now: desk.now,
             elapsed: Elapsed(desk.elapsed),
