@@ -75,7 +75,7 @@ pub fn sheet_in(block: &[u8; BLOCK]) -> JobSheet
     JobSheet::from_jobs(jobs, usize::from(block[3]))
 }
 
-// Whether a block is good as block 0: framed, with 1 to 8 jobs of good form.
+// Whether a block is good as block 0: framed, with 1 to 8 jobs of good form. The 8 is a byte: JOBS, a usize, takes more stack (tried).
 pub fn jobs_good(block: &[u8; BLOCK], total: u16) -> bool
     ensures { Is result (JobsBlock total block.now) }
 {
@@ -86,7 +86,7 @@ pub fn jobs_good(block: &[u8; BLOCK], total: u16) -> bool
         number: 0,
         total,
     };
-    if n < 1 || JOBS < usize::from(n) || !framed(block, header) {
+    if n < 1 || 8 < n || !framed(block, header) {
         return false;
     }
     for s in 0..usize::from(n) {

@@ -78,7 +78,7 @@ pub fn sheet_of(file: &[u8]) -> JobSheet
 
 // The last block read for a word, where block 0 is good: the first that does not end below the word, or the last of the file.
 // The sheet is read in place, and not by sheet_of: a call here costs 50 bytes of stack more (tried).
-fn last_after_first(file: &[u8], word: u64) -> Result<usize, BadBlock>
+fn last_after_first(file: &[u8], word: u64) -> Result<u32, BadBlock>
     requires { Opens file.now }
     ensures { JudgedTo file.now word result }
 {
@@ -89,15 +89,16 @@ fn last_after_first(file: &[u8], word: u64) -> Result<usize, BadBlock>
             return Err(BadBlock(b as u32));
         }
         if word <= u64::from(Rows::read(file, b).last_word()) {
-            return Ok(b);
+            return Ok(b as u32);
         }
     }
-    Ok(total - 1)
+    Ok((total - 1) as u32)
 }
 
 // The last block of a file read for a word, or the first that is bad. On its own, so that its stack is gone when a row is looked up.
+// The block is a u32, as a bad one is: with a usize the answer takes more stack (tried).
 #[inline(never)]
-fn last_block(file: &[u8], word: u64) -> Result<usize, BadBlock>
+fn last_block(file: &[u8], word: u64) -> Result<u32, BadBlock>
     ensures { JudgedTo file.now word result }
 {
     if !opens(file) {
@@ -111,5 +112,5 @@ pub fn read_for(file: &[u8], word: u64) -> Result<Rows<'_>, BadBlock>
     ensures { Judged file.now word result }
 {
     let b = last_block(file, word)?;
-    Ok(Rows::read(file, b))
+    Ok(Rows::read(file, b as usize))
 }
