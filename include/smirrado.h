@@ -53,13 +53,13 @@
 extern "C" {
 #endif
 
-#define SMIRRADO_MAKE_STACK 40960    /* measured: 35,240 */
-#define SMIRRADO_ROW_STACK 512       /* 273 */
-#define SMIRRADO_ROW_QUICK_STACK 512 /* 273 */
-#define SMIRRADO_LISTING_STACK 512   /* 321 */
-#define SMIRRADO_LEEWAY_STACK 512    /* 257 */
-#define SMIRRADO_STEP_STACK 512      /* 417 */
-#define SMIRRADO_ENGINE_STACK 131072 /* 60,120 */
+#define SMIRRADO_MAKE_STACK 40960    /* measured: 35,504 */
+#define SMIRRADO_ROW_STACK 512       /* 245 */
+#define SMIRRADO_ROW_QUICK_STACK 512 /* 245 */
+#define SMIRRADO_LISTING_STACK 512   /* 309 */
+#define SMIRRADO_LEEWAY_STACK 512    /* 245 */
+#define SMIRRADO_STEP_STACK 512      /* 453 */
+#define SMIRRADO_ENGINE_STACK 131072 /* 25,928 */
 
 #define SMIRRADO_JOBS 8           /* the most jobs of a sheet */
 #define SMIRRADO_ENGINE_JOBS 4    /* the most jobs of a sheet that engine judges */
