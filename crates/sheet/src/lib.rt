@@ -4,6 +4,7 @@
 
 ghost use Rattle.plant.specs.Reflect.{Is};
 ghost use Rattle.sheet.specs.Model.{GoodJob};
+ghost use Rattle.sheet.specs.Arrays.{IsJobOf};
 
 // A job's four numbers.
 #[derive(Clone, Copy, PartialEq, Eq)]
@@ -12,6 +13,20 @@ pub struct Job {
     pub fewest: u16,
     pub most: u16,
     pub due: u16,
+}
+
+// The job of four numbers, as a sheet holds them.
+impl From<[u16; 4]> for Job {
+    ghost from_gives = { IsJobOf };
+
+    fn from(numbers: [u16; 4]) -> Job {
+        Job {
+            arrives: numbers[0],
+            fewest: numbers[1],
+            most: numbers[2],
+            due: numbers[3],
+        }
+    }
 }
 
 impl Job {
