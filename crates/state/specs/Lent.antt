@@ -16,6 +16,10 @@ pub record WholeJobs (most : ℕ) (numbers : List ℕ) : Type 0 where
 abbrev pub lent : List ℕ → Sheet
 lent numbers = sheet_of (arrays numbers) (length numbers / 4)
 
+-- `r` jobs are in `m` numbers, or 0 where these are no sheet of at most so many jobs
+abbrev pub JobsIn : (most m r : ℕ) → Type 0
+JobsIn most m r = ((r ≡ 0) × (((m % 4 ≡ 0) × (4 ≤ m) × (m ≤ 4 * most)) → ⊥)) ⊎ ((r ≡ m / 4) × ((m % 4 ≡ 0) × (4 ≤ m) × (m ≤ 4 * most)))
+
 -- refusal 1, or 2 with the lowest job of bad form
 abbrev pub NotLent : ℕ → List ℕ → Refusal → Type 0
 NotLent most numbers e =

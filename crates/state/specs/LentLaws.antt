@@ -1,15 +1,22 @@
--- The sheet lent, as the code reads it. Assumes nothing.
-use Rattle.sheet.specs.declared.Job.{Job}
-use Rattle.std.specs.Prelude.{refl, ℕ, ◌/◌, ◌≤◌, ◌≡◌, List, length}
-use Rattle.std.proofs.Common.{arith}
+-- What is lent, as the code reads it: how many jobs, which, and whether they are good. Assumes nothing.
+use Rattle.std.specs.Prelude.{ℕ, ◌/◌, ◌≤◌, ◌≡◌, refl, ◌≢◌, List, length}
+use Rattle.std.proofs.Common.{arith, inl, inr}
 use Rattle.sheet.specs.Model.{Good}
 use Rattle.sheet.specs.Arrays.{sheet_of, arrays}
-use Rattle.sheet.proofs.ArraysLaws.{length_sheet}
-use Rattle.state.specs.Lent.{lent}
+use Rattle.state.specs.Lent.{WholeJobs, lent, JobsIn}
 use Rattle.state.specs.Lowest.{lowest_bad}
 use Rattle.state.specs.LowestLaws.{is_lowest_bad, good_sheet}
+use Rattle.sheet.proofs.ArraysLaws.{length_sheet}
 
-module _ (numbers : List ℕ) (jobs : List Job) (count : ℕ) (j : jobs ≡ arrays numbers) (c : count ≡ length numbers / 4) (some : 1 ≤ count) (few : count ≤ 8) where
+pub jobs_none : (most : ℕ) (numbers : List ℕ) (r : ℕ) → JobsIn most (length numbers) r → r ≡ 0 → ¬ (WholeJobs most numbers)
+jobs_none most numbers r (inl x) e s = x.1 (s.whole, s.some, s.few)
+jobs_none most numbers r (inr x) e s = omega (arith, x.0, s.some)
+
+pub jobs_some : (most : ℕ) (numbers : List ℕ) (r : ℕ) → JobsIn most (length numbers) r → r ≢ 0 → (r ≡ length numbers / 4) × WholeJobs most numbers × ((1 ≤ r) × (r ≤ most))
+jobs_some most numbers r (inl x) n = absurd (n x.0)
+jobs_some most numbers r (inr x) n = (x.0, record { whole = x.1.0; some = x.1.1; few = x.1.2 }, omega (arith, x.0, x.1.1, x.1.2))
+
+module _ (numbers : List ℕ) (jobs : List (List ℕ)) (count : ℕ) (j : jobs ≡ arrays numbers) (c : count ≡ length numbers / 4) (some : 1 ≤ count) (few : count ≤ 8) where
   pub lent_is : sheet_of jobs count ≡ lent numbers
   lent_is = rw (j, c) refl
 

@@ -10,6 +10,7 @@ pub mod Lowest
 -- What follows:
 pub mod EventLaws
 pub mod BitLaws
+pub mod KnownLaws
 pub mod WordBack
 pub mod Tell
 pub mod LowestLaws

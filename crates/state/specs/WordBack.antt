@@ -4,7 +4,7 @@ use Rattle.std.proofs.Math.Nat.{pow-succ', div-div-eq-div-mul}
 use Rattle.std.proofs.Common.{arith}
 use Rattle.sheet.specs.Model.{State, digits_word, word, digits, state_of}
 use Rattle.sheet.proofs.WordLaws.{digits_word_lt, state_of_word}
-use Rattle.state.specs.Clocks.{Known}
+use Rattle.state.specs.Statuses.{Known}
 
 -- the digit at j
 pub digit_at : (n w j : ℕ) → j < n → get_or (digits n w) j 0 ≡ w / 4 ^ j % 4

@@ -1,7 +1,7 @@
 // A sheet by value: up to eight jobs, as a call is lent them.
-ghost use Rattle.std.specs.Prelude.{◌≡◌, ◌≤◌, ◌+◌, ◌<◌, get_or, length, MatchOption};
-ghost use Rattle.sheet.specs.Arrays.{job_from, arrays, sheet_of};
-ghost use Rattle.state.specs.Lent.{Lent};
+ghost use Rattle.std.specs.Prelude.{◌≡◌, ◌≤◌, ◌+◌, ◌<◌, get_or, length, map, MatchOption};
+ghost use Rattle.sheet.specs.Arrays.{job_of, four, arrays, sheet_of};
+ghost use Rattle.state.specs.Lent.{JobsIn, Lent};
 ghost use Rattle.state.specs.Lowest.{lowest_bad};
 
 use crate::refusal::Refusal;
@@ -11,10 +11,11 @@ use std::marker::Model;
 // How many jobs a sheet has at most.
 pub const JOBS: usize = 8;
 
-// Seen from outside it is the rules' sheet, the list of its jobs; what stands past the last is not seen.
+// Eight jobs of four numbers, of which the first are there. Seen from outside it is the rules' sheet, the list of its jobs; what stands past
+// the last is not seen.
 #[derive(Drop)]
 pub struct JobSheet {
-    jobs: [Job; JOBS],
+    jobs: [[u16; 4]; JOBS],
     count: usize,
 }
 
@@ -32,7 +33,7 @@ impl Model for JobSheet {
 
 impl JobSheet {
     // The first jobs of an array.
-    pub fn from_jobs(jobs: [Job; JOBS], count: usize) -> JobSheet
+    pub fn from_jobs(jobs: [[u16; 4]; JOBS], count: usize) -> JobSheet
         requires { count ≤ 8 }
         ensures { result ≡ sheet_of jobs count }
     {
@@ -44,8 +45,8 @@ impl JobSheet {
         requires { most ≤ 8 }
         ensures { Lent most numbers.now result }
     {
-        let count = numbers.len() / 4;
-        if numbers.len() % 4 != 0 || count < 1 || most < count {
+        let count = jobs_in(numbers.len(), most);
+        if count == 0 {
             return Err(Refusal::NoSheet);
         }
         let sheet = JobSheet::from_jobs(jobs_of(numbers), count);
@@ -55,9 +56,10 @@ impl JobSheet {
         }
     }
 
-    // The jobs, the first of them first.
-    pub fn jobs(&self) -> &[Job]
-        ensures same { result.now ≡ self.now }
+    // The jobs' numbers, those of the first job first.
+    pub fn jobs(&self) -> &[[u16; 4]]
+        ensures same { map job_of result.now ≡ self.now }
+        ensures many { length result.now ≡ length self.now }
         ensures few { length self.now ≤ 8 }
     {
         &self.jobs[..self.count]
@@ -75,13 +77,25 @@ impl JobSheet {
     pub fn lowest_bad(&self) -> Option<usize>
         ensures { MatchOption result (lowest_bad self.now ≡ 0) (λ i. (lowest_bad self.now ≡ i) × (1 ≤ i)) }
     {
-        for (i, job) in self.jobs().iter().enumerate() {
+        for (i, numbers) in self.jobs().iter().enumerate() {
+            let job = Job::from(*numbers);
             if !job.is_good() {
                 return Some(i + 1);
             }
         }
         None
     }
+}
+
+// The jobs of a sheet of so many numbers, or 0 where they are no sheet of at most so many jobs.
+pub fn jobs_in(numbers: usize, most: usize) -> usize
+    ensures { JobsIn most numbers result }
+{
+    let count = numbers / 4;
+    if numbers % 4 != 0 || count < 1 || most < count {
+        return 0;
+    }
+    count
 }
 
 // The number at a place, 0 past the end.
@@ -91,30 +105,23 @@ fn number(numbers: &[u16], i: usize) -> u16
     numbers.get(i).copied().unwrap_or(0)
 }
 
-// The job of the four numbers from a place on.
-fn job_from(numbers: &[u16], i: usize) -> Job
+// The four numbers from a place on.
+fn job_from(numbers: &[u16], i: usize) -> [u16; 4]
     requires { i < 32 }
-    ensures { result ≡ job_from numbers.now i }
+    ensures { result ≡ four numbers.now i }
 {
-    Job {
-        arrives: number(numbers, i),
-        fewest: number(numbers, i + 1),
-        most: number(numbers, i + 2),
-        due: number(numbers, i + 3),
-    }
+    let arrives = number(numbers, i);
+    let fewest = number(numbers, i + 1);
+    let most = number(numbers, i + 2);
+    let due = number(numbers, i + 3);
+    [arrives, fewest, most, due]
 }
 
 // Eight jobs, with zeros past the last number.
-fn jobs_of(numbers: &[u16]) -> [Job; JOBS]
+fn jobs_of(numbers: &[u16]) -> [[u16; 4]; JOBS]
     ensures { result ≡ arrays numbers.now }
 {
-    let none = Job {
-        arrives: 0,
-        fewest: 0,
-        most: 0,
-        due: 0,
-    };
-    let mut jobs = [none; JOBS];
+    let mut jobs = [[0; 4]; JOBS];
     for (i, job) in jobs.iter_mut().enumerate() {
         *job = job_from(numbers, 4 * i);
     }
