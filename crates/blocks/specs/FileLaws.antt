@@ -2,20 +2,19 @@
 use Prim.Native.Nat.{ℕ, zero, suc, ◌+◌, ◌-◌, ◌*◌, ◌≤◌, min}
 use native.Mathlib.Omega.{arith}
 use Rattle.std.proofs.Math.Numerals.{add-one}
-use Rattle.std.specs.Prelude.{◌≡◌, List, ◌++◌, map, length, get_or}
+use Rattle.std.specs.Prelude.{◌≡◌, List, [], ◌++◌, map, length, get_or}
 use Rattle.std.proofs.Math.Path.{refl, ap}
 use Rattle.std.proofs.Common.{sym, ◌∙◌, append_assoc, length-take}
 use Rattle.std.proofs.Math.ListN.{take, drop, length-append}
 use Rattle.std.proofs.Math.Seq.{take_at, drop_at, drop-drop}
-use Rattle.sheet.specs.declared.Job.{Job}
-use Rattle.sheet.specs.Model.{Sheet, no_job}
-use Rattle.sheet.specs.Arrays.{sheet_of}
+use Rattle.sheet.specs.Model.{Sheet}
+use Rattle.sheet.specs.Arrays.{job_of, sheet_of}
 use Rattle.sheet.proofs.ArraysLaws.{length_sheet}
 use Rattle.sheet.specs.Table.{Entry}
 use Rattle.blocks.specs.Sizes.{block_bytes, block_slots, slot_bytes, most_jobs}
 use Rattle.blocks.specs.File.{block_of, job_slot, row_slot, block_for, written, blocks_of, bytes_of}
 use Rattle.blocks.specs.Tab.{tab}
-use Rattle.blocks.specs.TabLaws.{take_is_tab, part_tab}
+use Rattle.blocks.specs.TabLaws.{take_is_tab, part_tab, map_tab}
 use Rattle.blocks.specs.BlockLaws.{block_length}
 
 module _ (t : ℕ) (σ : Sheet) (rows : List Entry) (few : length σ ≤ block_slots) where
@@ -50,10 +49,10 @@ module _ (t : ℕ) (σ : Sheet) (rows : List Entry) (few : length σ ≤ block_s
 pub length_bytes : (σ : Sheet) (rows : List Entry) → length σ ≤ block_slots → length (bytes_of σ rows) ≡ block_bytes * blocks_of (length rows)
 length_bytes σ rows few = length_written (blocks_of (length rows)) σ rows few (blocks_of (length rows))
 
--- the first n of the jobs, by place
-module _ (js : List Job) (n : ℕ) (l : length js ≡ most_jobs) (h : n ≤ most_jobs) where
-  pub sheet_tab : sheet_of js n ≡ tab n (λ s. get_or js s no_job)
-  sheet_tab = take_is_tab n js no_job (omega arith)
+-- the first n of the arrays, by place
+module _ (js : List (List ℕ)) (n : ℕ) (l : length js ≡ most_jobs) (h : n ≤ most_jobs) where
+  pub sheet_tab : sheet_of js n ≡ tab n (λ s. job_of (get_or js s []))
+  sheet_tab = rw (take_is_tab n js [] (omega arith)) (map_tab job_of n (λ s. get_or js s []))
 
   pub jobs_block : (t : ℕ) (rows : List Entry) (block : List ℕ) → block ≡ block_of n 0 t (map job_slot (sheet_of js n)) → block ≡ block_for t (sheet_of js n) rows 0
   jobs_block t rows block e = rw (length_sheet js n (omega arith)) e

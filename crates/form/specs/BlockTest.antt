@@ -1,5 +1,5 @@
 -- The tests of a block as the code makes them, field by field (01, "Table file").
-use Rattle.std.specs.Prelude.{ℕ, suc, ◌+◌, ◌-◌, ◌≤◌, ◌<◌, ◌≡◌, List, length, get_or}
+use Rattle.std.specs.Prelude.{ℕ, suc, ◌+◌, ◌-◌, ◌≤◌, ◌<◌, ◌≡◌, List, [], ◌∷◌, length, get_or}
 use Rattle.sheet.specs.Model.{Sheet, GoodJob}
 use Rattle.sheet.specs.Form.{GoodEntry}
 use Rattle.blocks.specs.Sizes.{body_bytes, block_slots, slot_bytes, most_jobs}
@@ -49,6 +49,13 @@ pub record RowsBlock (σ : Sheet) (total b last : ℕ) (block : List ℕ) : Type
   pub frame : Framed slot_bytes (length σ) (get_or block 3 0) b total block
   pub slots : (s : ℕ) → s < get_or block 3 0 → SlotGood σ block s
   pub follows : Follows b last (u32_at block (slot_at 0))
+
+-- the four numbers at a place, and the jobs of the first eight slots
+abbrev pub four_at : List ℕ → ℕ → List ℕ
+four_at s p = u16_at s p ∷ u16_at s (p + 2) ∷ u16_at s (p + 4) ∷ u16_at s (p + 6) ∷ []
+
+unfoldable pub fours : List ℕ → List (List ℕ)
+fours block = tab most_jobs (λ s. four_at block (slot_at s))
 
 -- the jobs of block 0
 abbrev pub jobs_in : List ℕ → Sheet

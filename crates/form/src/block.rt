@@ -4,7 +4,7 @@ ghost use Rattle.plant.specs.Reflect.{Is};
 ghost use Rattle.blocks.specs.Sizes.{block_bytes, header_bytes, block_slots, slot_bytes, most_jobs, most_blocks};
 ghost use Rattle.blocks.specs.Bytes.{u32_at};
 ghost use Rattle.blocks.specs.Fields.{Framed, slot_at, job_from};
-ghost use Rattle.form.specs.BlockTest.{Zeros, Headed, JobsBlock, SlotGood, CountFits, Follows, RowsBlock, jobs_in};
+ghost use Rattle.form.specs.BlockTest.{Zeros, Headed, JobsBlock, SlotGood, CountFits, Follows, RowsBlock, four_at, jobs_in};
 
 use crate::row::row_good;
 use blocks::check::check_of;
@@ -49,17 +49,24 @@ fn framed(block: &[u8; BLOCK], header: Header) -> bool
         && read32(block, BODY) == check_of(block)
 }
 
+// The four numbers at a place.
+fn four_at(block: &[u8; BLOCK], at: usize) -> [u16; 4]
+    requires { at + slot_bytes ≤ block_bytes }
+    ensures { result ≡ four_at block.now at }
+{
+    let arrives = read16(block, at);
+    let fewest = read16(block, at + 2);
+    let most = read16(block, at + 4);
+    let due = read16(block, at + 6);
+    [arrives, fewest, most, due]
+}
+
 // The job whose four numbers stand at a place.
 pub fn job_at(block: &[u8; BLOCK], at: usize) -> Job
     requires { at + slot_bytes ≤ block_bytes }
     ensures { result ≡ job_from block.now at }
 {
-    Job {
-        arrives: read16(block, at),
-        fewest: read16(block, at + 2),
-        most: read16(block, at + 4),
-        due: read16(block, at + 6),
-    }
+    Job::from(four_at(block, at))
 }
 
 // The jobs of block 0: those of as many slots as it has jobs.
@@ -68,9 +75,9 @@ pub fn sheet_in(block: &[u8; BLOCK]) -> JobSheet
     ensures { result ≡ jobs_in block.now }
 {
     // The first slot's job fills the eight places, till each place has its own.
-    let mut jobs = [job_at(block, HEADER); JOBS];
+    let mut jobs = [four_at(block, HEADER); JOBS];
     for (s, job) in jobs.iter_mut().enumerate() {
-        *job = job_at(block, HEADER + SLOT * s);
+        *job = four_at(block, HEADER + SLOT * s);
     }
     JobSheet::from_jobs(jobs, usize::from(block[3]))
 }

@@ -88,11 +88,12 @@ fn pass(sheet: &JobSheet, row: Row) -> Option<Passed>
         pending: false,
         spent: false,
     };
-    for (k, job) in sheet.jobs().iter().enumerate() {
+    for (k, numbers) in sheet.jobs().iter().enumerate() {
         let number = k as u8 + 1;
+        let job = Job::from(*numbers);
         let status = status_in(row.word, number);
         let marked = has(row.starts, number);
-        if !job_fits(*job, status, marked, now, elapsed, opens) {
+        if !job_fits(job, status, marked, now, elapsed, opens) {
             return None;
         }
         let runs = runs(status);
@@ -101,8 +102,8 @@ fn pass(sheet: &JobSheet, row: Row) -> Option<Passed>
         }
         passed = Passed {
             running: passed.running | runs,
-            pending: passed.pending | pends(*job, status, now),
-            spent: passed.spent | spends(*job, status, elapsed),
+            pending: passed.pending | pends(job, status, now),
+            spent: passed.spent | spends(job, status, elapsed),
         };
     }
     Some(passed)

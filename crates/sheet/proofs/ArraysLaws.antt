@@ -1,15 +1,18 @@
 -- The sheet of eight arrays: how many jobs it has, and which. Assumes nothing.
 use Rattle.std.specs.Prelude.{ℕ, suc, ◌-◌, ◌≤◌, ◌<◌, ◌≡◌, List, [], length, map, get_or, take}
-use Rattle.std.proofs.Common.{arith, ap, ◌∙◌, length-take, get_or-take}
+use Rattle.std.proofs.Common.{arith, sym, ap, ◌∙◌, length-take, get_or-take}
 use Rattle.std.proofs.lemmas.List.{length-map}
 use Rattle.std.proofs.Math.ListN.{get_or-map}
 use Rattle.plant.specs.Range.{In}
-use Rattle.sheet.specs.Model.{no_job, job}
+use Rattle.sheet.specs.Model.{Sheet, no_job, job}
 use Rattle.sheet.specs.Arrays.{job_of, sheet_of}
 
--- the job at a place of the arrays, counted from 0, as a loop over them reads it; and how many jobs they are
+-- the job at a place of the arrays, counted from 0, as a loop over them reads it; the same of a sheet that they are; and how many jobs they are
 pub job_read : (l : List (List ℕ)) (i : ℕ) → get_or (map job_of l) i no_job ≡ job_of (get_or l i [])
 job_read l i = get_or-map job_of l i []
+
+pub job_there : (l : List (List ℕ)) (σ : Sheet) (i : ℕ) → map job_of l ≡ σ → job_of (get_or l i []) ≡ get_or σ i no_job
+job_there l σ i e = sym (job_read l i) ∙ ap (λ (s : Sheet). get_or s i no_job) e
 
 pub jobs_many : (l : List (List ℕ)) → length (map job_of l) ≡ length l
 jobs_many l = length-map l job_of

@@ -62,8 +62,8 @@ pub fn write_jobs(part: &mut [u8], total: u16, sheet: &JobSheet)
         total,
     };
     put(part, 0, &header.to_bytes());
-    for (s, job) in sheet.jobs().iter().enumerate() {
-        put(part, HEADER + SLOT * s, &job_slot(*job));
+    for (s, numbers) in sheet.jobs().iter().enumerate() {
+        put(part, HEADER + SLOT * s, &job_slot(Job::from(*numbers)));
     }
     seal(part, HEADER + SLOT * count);
 }

@@ -1,6 +1,8 @@
 -- The first of the eight jobs are those of the sheet. Assumes nothing.
-use Rattle.std.proofs.Common.{◌≤◌, ◌≡◌, take, arith, length-take, get_or-take, ◌∙◌}
+use Rattle.std.proofs.Common.{◌≤◌, ◌≡◌, arith, ap, ◌∙◌}
 use Rattle.sheet.specs.Model.{no_job}
+use Rattle.sheet.specs.Arrays.{job_of, sheet_of}
+use Rattle.sheet.proofs.ArraysLaws.{length_sheet, job_placed}
 use Rattle.blocks.specs.Fields.{slot_at, job_from}
 use Rattle.blocks.specs.Tab.{tab}
 use Rattle.blocks.specs.TabLaws.{tab_is}
@@ -12,7 +14,7 @@ returns c =
     let jobs = c.loop-s.job-items in
     let n = c.from.result in
     let few : n ≤ 8 = omega arith in
-    let front : take n jobs ≡ tab n (λ s. job_from block (slot_at s)) =
-    tab_is (take n jobs) n (λ s. job_from block (slot_at s)) no_job (omega (arith, length-take n jobs))
-    (λ i h. get_or-take n jobs i no_job h ∙ c.loop-s.invariant.1 i (omega arith)) in
+    let front : sheet_of jobs n ≡ tab n (λ s. job_from block (slot_at s)) =
+    tab_is (sheet_of jobs n) n (λ s. job_from block (slot_at s)) no_job (length_sheet jobs n (omega (arith, c.loop-s.invariant.0)))
+    (λ i h. job_placed jobs n i h ∙ ap job_of (c.loop-s.invariant.1 i (omega arith))) in
     rw c.from.ensures at (c.from_jobs.ensures ∙ front)

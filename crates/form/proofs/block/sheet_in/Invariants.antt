@@ -1,8 +1,8 @@
 -- The jobs so far are those of their slots. Assumes nothing.
-use Rattle.std.proofs.Common.{ℕ, ◌<◌, ◌≡◌, length, get_or}
-use Rattle.sheet.specs.Model.{no_job}
-use Rattle.blocks.specs.Fields.{slot_at, job_from}
+use Rattle.std.proofs.Common.{ℕ, ◌<◌, ◌≡◌, [], length, get_or}
+use Rattle.blocks.specs.Fields.{slot_at}
+use Rattle.form.specs.BlockTest.{four_at}
 use Rattle.form.proofs.block.sheet_in.Given as goal
 
 abbrev pub invariant-loop-s : goal.invariant-loop-s
-invariant-loop-s l = (length l.job-items ≡ 8) × ((k : ℕ) → k < l.s → get_or l.job-items k no_job ≡ job_from l.block (slot_at k))
+invariant-loop-s l = (length l.job-items ≡ 8) × ((k : ℕ) → k < l.s → get_or l.job-items k [] ≡ four_at l.block (slot_at k))
