@@ -1,7 +1,6 @@
 -- The stages of a step come to its reply. Assumes nothing.
-use Rattle.std.specs.Prelude.{ℕ, ◌≤◌, ◌<◌, ◌≡◌, refl, ◌≢◌, Bool, true, false, List, length, get_or, Ok}
+use Rattle.std.specs.Prelude.{ℕ, ◌<◌, ◌≡◌, refl, ◌≢◌, Bool, true, false, List, length, Ok}
 use Rattle.std.proofs.Common.{arith, sym, ap, subst, ◌∙◌}
-use Rattle.std.proofs.Math.ListN.{get_or-map}
 use Rattle.std.proofs.Math.Option.{some}
 use Rattle.plant.specs.Reflect.{is_true}
 use Rattle.sheet.specs.Model.{Sheet, Good, word}
@@ -9,9 +8,6 @@ use Rattle.sheet.specs.Model as rules
 use Rattle.sheet.specs.Form.{GoodRows}
 use Rattle.sheet.specs.Table.{Entry, at, Ascending}
 use Rattle.state.specs.Clocks.{Known, model}
-use Rattle.state.specs.Statuses.{number_of}
-use Rattle.state.specs.declared.status.Status.{Status}
-use Rattle.state.specs.declared.status.Status.TheVariants.{Coming, Ready, Running, Done}
 use Rattle.state.specs.declared.word.State.{State}
 use Rattle.blocks.specs.Rows.{entry_of}
 use Rattle.blocks.specs.declared.row.Row.{Row}
@@ -30,17 +26,8 @@ use Rattle.desk.specs.declared.desk.Desk.{Desk}
 use Rattle.desk.specs.declared.step.Stepped.{Stepped}
 
 -- a desk that a state is on has known statuses
-number_small : (a : Status) → number_of a ≤ 3
-number_small Coming = omega arith
-number_small Ready = omega arith
-number_small Running = omega arith
-number_small Done = omega arith
-
 pub known_on : (s : State) (d : Desk) → model s ≡ state_in d → Known d.statuses
-known_on s d m = subst (λ (q : rules.State). Known q.statuses) m each
-  where
-    each : Known (model s).statuses
-    each k = let e : get_or (model s).statuses k 0 ≡ number_of (get_or s.statuses k Coming) = get_or-map number_of s.statuses k Coming in rw e (number_small _)
+known_on s d m = subst (λ (q : rules.State). Known q.statuses) m s.known
 
 module _ (σ : Sheet) (rows : List Entry) (d : Desk) (x : ℕ) where
   pub at_nine : on false (names σ) (kind_of (event_of x)) ≡ false → stays 9 0 d ≡ step_reply d x (good σ rows)

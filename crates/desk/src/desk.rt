@@ -18,25 +18,25 @@ impl From<State> for Desk {
     ghost from_gives = { IsDeskOf };
 
     fn from(s: State) -> Desk {
+        let statuses = s.statuses;
         Desk {
             now: s.now,
             elapsed: s.elapsed.0,
-            statuses: s.statuses.map(|status| status.number()),
+            statuses,
         }
     }
 }
 
 // The state on the desk. One with a status above 3 stands for none: the first that is above ends the search.
-// A loop: tried with `try_map`, a step then takes more stack than the header says.
 impl TryFrom<Desk> for State {
     type Error = UnknownStatus;
 
     ghost try_from_gives = { IsStateOn };
 
     fn try_from(desk: Desk) -> Result<State, UnknownStatus> {
-        let mut statuses = [Status::Coming; 8];
-        for (i, byte) in desk.statuses.iter().enumerate() {
-            statuses[i] = Status::try_from(*byte)?;
+        let statuses = desk.statuses;
+        for byte in statuses.iter() {
+            let _status = Status::try_from(*byte)?;
         }
         Ok(State {
             now: desk.now,

@@ -2,7 +2,6 @@
 ghost use Rattle.std.specs.Prelude.{map, ◌+◌, ◌≤◌, length, take};
 ghost use Rattle.plant.specs.Range.{In};
 ghost use Rattle.sheet.specs.Model.{state_of};
-ghost use Rattle.state.specs.Statuses.{number_of};
 ghost use Rattle.blocks.specs.Sizes.{most_jobs};
 ghost use Rattle.blocks.specs.Rows.{entry_of};
 ghost use Rattle.lines.specs.Digits.{digit};
@@ -13,18 +12,17 @@ ghost use Rattle.lines.specs.Pages.{HasRoom, Adds};
 use crate::page::Page;
 use blocks::row::Row;
 use state::bits::has;
-use state::status::Status;
 use state::word::State;
 
 // `n ≤ most_jobs` stays a clause: n is the file's byte of jobs, and a type of its own would be made by a proof for one call.
 impl Page<'_> {
     // Prints the statuses of the first n jobs, a digit each.
-    fn put_statuses(&mut self, statuses: [Status; 8], n: u8)
+    fn put_statuses(&mut self, state: State, n: u8)
         requires { (n ≤ most_jobs) × HasRoom self.old n }
-        ensures { Adds self.old (map digit (take n (map number_of statuses))) self.new }
+        ensures { Adds self.old (map digit (take n state.statuses)) self.new }
     {
-        for status in &statuses[..usize::from(n)] {
-            self.put_digit(status.number());
+        for status in &state.statuses[..usize::from(n)] {
+            self.put_digit(*status);
         }
     }
 
@@ -90,7 +88,7 @@ impl Page<'_> {
         let state = State::from(word);
         self.put_clock(state.now);
         self.put_clock(state.elapsed.0);
-        self.put_statuses(state.statuses, n);
+        self.put_statuses(state, n);
         self.put(b" ");
     }
 

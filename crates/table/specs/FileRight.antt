@@ -6,12 +6,11 @@ use Rattle.sheet.specs.declared.Job.{Job}
 use Rattle.sheet.specs.Model.{Sheet, no_job}
 use Rattle.sheet.specs.Arrays.{sheet_of}
 use Rattle.blocks.specs.Fields.{slot_at, job_from}
-use Rattle.blocks.specs.Tab.{tab}
 use Rattle.blocks.specs.TabLaws.{length_tab, get_or_tab}
 use Rattle.sheet.specs.Table.{Entry}
-use Rattle.blocks.specs.Sizes.{block_bytes, most_jobs}
+use Rattle.blocks.specs.Sizes.{block_bytes}
 use Rattle.blocks.specs.Bytes.{EachByte}
-use Rattle.form.specs.BlockTest.{RowsBlock, JobsBlock, jobs_in}
+use Rattle.form.specs.BlockTest.{RowsBlock, JobsBlock, fours, jobs_in}
 use Rattle.table.specs.Reading.{total, block_at, Sized, Reads, GoodTo, good, bad, Says}
 use Rattle.table.specs.ReadingLaws.{good_below, jobs_count, job_there}
 use Rattle.table.specs.BlockRight.{before, goes_on, went_on}
@@ -23,7 +22,7 @@ use Rattle.table.specs.Places.{GoodFile}
 abbrev pub SoFar : List ℕ → ℕ → Type 0
 SoFar file b = (k : ℕ) × (rows : List Entry) × (b ≡ suc k) × Reads file k (jobs_in (block_at file 0)) rows
 
-pub sheet_is : (block : List ℕ) (js : List Job) (n : ℕ) → js ≡ tab most_jobs (λ s. job_from block (slot_at s)) → n ≡ get_or block 3 0 → n ≤ 8 → sheet_of js n ≡ jobs_in block
+pub sheet_is : (block : List ℕ) (js : List (List ℕ)) (n : ℕ) → js ≡ fours block → n ≡ get_or block 3 0 → n ≤ 8 → sheet_of js n ≡ jobs_in block
 sheet_is block js n e d h = rw (e, ← d) (sheet_in block n h)
 
 module _ (file : List ℕ) where

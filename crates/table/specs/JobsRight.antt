@@ -1,24 +1,26 @@
 -- Block 0 that passes the test opens a reading, and one that opens a reading passes. Assumes nothing.
-use Rattle.std.specs.Prelude.{ℕ, zero, suc, ◌-◌, ◌≤◌, ◌<◌, ◌≡◌, refl, List, [], length, get_or}
-use Rattle.std.proofs.Common.{arith}
+use Rattle.std.specs.Prelude.{ℕ, zero, suc, ◌-◌, ◌≤◌, ◌<◌, ◌≡◌, refl, List, [], map, length, get_or}
+use Rattle.std.proofs.Common.{arith, ap, ◌∙◌}
 use Rattle.sheet.specs.Model.{no_job}
-use Rattle.sheet.specs.Arrays.{sheet_of}
+use Rattle.sheet.specs.Arrays.{job_of, sheet_of}
 use Rattle.blocks.specs.Sizes.{slot_bytes, most_jobs}
 use Rattle.blocks.specs.Bytes.{EachByte}
 use Rattle.blocks.specs.File.{job_slot, block_for}
 use Rattle.blocks.specs.Fields.{slot_at, job_from}
 use Rattle.blocks.specs.Tab.{tab}
-use Rattle.blocks.specs.TabLaws.{length_tab, get_or_tab, take_tab}
+use Rattle.blocks.specs.TabLaws.{length_tab, get_or_tab, take_tab, map_tab}
 use Rattle.blocks.specs.BlockLaws.{framed}
 use Rattle.blocks.specs.SlotLaws.{jobs_made}
-use Rattle.form.specs.BlockTest.{JobsBlock, jobs_in}
+use Rattle.form.specs.BlockTest.{JobsBlock, four_at, fours, jobs_in}
 use Rattle.table.specs.Reading.{total, block_at, Sized, Reads, GoodTo}
 use Rattle.table.specs.ReadingLaws.{jobs_count, job_there}
 use Rattle.table.specs.BlockRight.{small_block}
 
 -- the first n of the jobs of the first eight slots
-pub sheet_in : (block : List ℕ) (n : ℕ) → n ≤ most_jobs → sheet_of (tab most_jobs (λ s. job_from block (slot_at s))) n ≡ tab n (λ s. job_from block (slot_at s))
-sheet_in block n h = take_tab n most_jobs (λ s. job_from block (slot_at s)) h
+pub sheet_in : (block : List ℕ) (n : ℕ) → n ≤ most_jobs → sheet_of (fours block) n ≡ tab n (λ s. job_from block (slot_at s))
+unfolding fours
+sheet_in block n h =
+    ap (map job_of) (take_tab n most_jobs (λ s. four_at block (slot_at s)) h) ∙ map_tab job_of n (λ s. four_at block (slot_at s))
 
 -- a block that passes opens a reading
 pub jobs_open : (file : List ℕ) → Sized file → EachByte file → JobsBlock (total file) (block_at file 0) → Reads file 0 (jobs_in (block_at file 0)) []
