@@ -2,5 +2,6 @@
 
 #![tactic(auto)]
 
+pub mod bytes;
 pub mod page;
 mod rows;

@@ -4,6 +4,8 @@ ghost use Rattle.lines.specs.Digits.{digit, decimal};
 ghost use Rattle.lines.specs.Lines.{line_bytes, header_line, refusal_text};
 ghost use Rattle.lines.specs.Parts.{pair_line};
 
+use crate::bytes::ZERO;
+
 // A lent slice that is filled from the front on, up to `end`.
 #[derive(Drop)]
 pub struct Page<'a> {
@@ -47,7 +49,7 @@ impl Page<'_> {
         requires { (d ≤ 9) × HasRoom self.old 1 }
         ensures { Adds self.old (digit d ∷ []) self.new }
     {
-        self.put(&[b'0' + d]);
+        self.put(&[ZERO + d]);
     }
 
     // Puts a number in decimal: the digits of its tenth, where that is not 0, and its last digit behind them. By hand: what is printed is

@@ -78,6 +78,13 @@ module _ {file : List ℕ} {σ : Sheet} {rows : List Entry} (s : Says file (good
   pub rows_few : length rows ≤ most_rows
   rows_few = read_few s.0 s.1
 
+  -- in their places they are the rows
+  pub all_rows : rows_in file (length rows) ≡ rows
+  all_rows = sym (tab_is rows (length rows) (λ i. row_from file (place i)) no_entry refl (λ i h. sym (row_placed i h)))
+
+  pub all_placed : Placed file (length rows)
+  all_placed = record { few = rows_few; inside = places_end; ascend = lies_ascend s.0 s.1 }
+
 -- Rows in their places are these rows -----------------------------------------------------------------------------------
 
 module _ (file : List ℕ) (n : ℕ) where
@@ -94,6 +101,9 @@ module _ (file : List ℕ) (n : ℕ) where
 
     pub row_seen : (i : ℕ) → i < length l → row_from file (place i) ≡ at l i
     row_seen i h = sym (row_in i (omega (arith, count_seen))) ∙ ap (λ (x : List Entry). at x i) e
+
+    pub word_seen : (i : ℕ) → i < length l → u32_at file (place i) ≡ (at l i).word
+    word_seen i h = ap (λ (x : Entry). x.word) (row_seen i h)
 
     pub ascend_seen : Ascends file n → (i j : ℕ) → i < j → j < length l → (at l i).word < (at l j).word
     ascend_seen a i j h k =

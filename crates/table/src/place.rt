@@ -1,19 +1,21 @@
 // The rows of a file in their places: how many there are, and where a word stands.
-ghost use Rattle.std.specs.Prelude.{◌≡◌, List, ℕ, ◌≤◌, ◌<◌, ◌+◌, ◌*◌, length};
+ghost use Rattle.std.specs.Prelude.{◌≡◌, List, ℕ, ◌≤◌, ◌<◌, ◌+◌, ◌-◌, ◌*◌, length, get_or};
 ghost use Rattle.sheet.specs.Model.{Sheet};
 ghost use Rattle.sheet.specs.Table.{Entry, at};
-ghost use Rattle.blocks.specs.Sizes.{most_rows};
+ghost use Rattle.blocks.specs.Sizes.{block_slots, slot_bytes, most_rows};
+ghost use Rattle.blocks.specs.Bytes.{u32_at};
 ghost use Rattle.blocks.specs.Rows.{entry_of};
-ghost use Rattle.table.specs.Reading.{Sized, Reads, GoodTo, good, Says};
+ghost use Rattle.table.specs.Reading.{total, block_at, Sized, Reads, GoodTo, good, Says};
 ghost use Rattle.table.specs.ReadFor.{last_word};
 ghost use Rattle.table.specs.Places.{place, GoodFile, Finds};
 
+use blocks::numbers::read32;
 use blocks::row::Row;
 use blocks::sizes::{BLOCK, HEADER, SLOT, SLOTS};
 use std::marker::Model;
 
 // The rows of a file's first blocks. Seen from outside they are the rules' rows.
-#[derive(Drop)]
+#[derive(Clone, Drop)]
 pub struct Rows<'a> {
     file: &'a [u8],
     count: usize,
@@ -32,21 +34,47 @@ impl<'a> Model for Rows<'a> {
 }
 
 // Where row i stands, counted from 0.
-fn place_of(i: usize) -> usize
+pub fn place_of(i: usize) -> usize
     requires { i < most_rows }
     ensures { result ≡ place i }
 {
     BLOCK * (i / SLOTS + 1) + (HEADER + SLOT * (i % SLOTS))
 }
 
+// The word of row i.
+pub fn word_at(file: &[u8], i: usize) -> u32
+    requires { (i < most_rows) × (place i + slot_bytes ≤ length file.now) }
+    ensures { result ≡ u32_at file.now (place i) }
+{
+    read32(file, place_of(i))
+}
+
+// The number of rows in the blocks up to b: all slots of those before it, and the slots used in it.
+pub fn rows_to(file: &[u8], b: usize) -> usize
+    requires { Sized file.now × ((1 ≤ b) × (b < total file.now)) }
+    ensures { result ≡ block_slots * (b - 1) + get_or (block_at file.now b) 3 0 }
+{
+    SLOTS * (b - 1) + usize::from(file[BLOCK * b + 3])
+}
+
+// The number of rows of a file.
+pub fn count_rows(file: &[u8]) -> usize
+    requires { Sized file.now }
+    ensures { result ≡ block_slots * (total file.now - 2) + get_or (block_at file.now (total file.now - 1)) 3 0 }
+{
+    rows_to(file, file.len() / BLOCK - 1)
+}
+
 impl<'a> Rows<'a> {
-    // The rows of the blocks up to block b, where all those are good: all slots of the blocks before it, and the slots used in it.
+    // The rows of the blocks up to block b, where all those are good.
     pub fn read(file: &'a [u8], b: usize) -> Rows<'a>
         requires { Sized file.now × ((1 ≤ b) × GoodTo file.now b) }
         ensures { (σ : Sheet) (rows : List Entry) → Reads file.now b σ rows → result ≡ rows }
     {
-        let count = SLOTS * (b - 1) + usize::from(file[BLOCK * b + 3]);
-        Rows { file, count }
+        Rows {
+            file,
+            count: rows_to(file, b),
+        }
     }
 
     // All rows of a good file.
@@ -54,7 +82,10 @@ impl<'a> Rows<'a> {
         requires { GoodFile file.now }
         ensures { (σ : Sheet) (rows : List Entry) → Says file.now (good σ rows) → result ≡ rows }
     {
-        Rows::read(file, file.len() / BLOCK - 1)
+        Rows {
+            file,
+            count: count_rows(file),
+        }
     }
 
     // How many they are.
@@ -93,7 +124,7 @@ impl<'a> Rows<'a> {
         let mut hi = self.count;
         while lo < hi {
             let mid = lo + (hi - lo) / 2;
-            if self.row(mid).word < word {
+            if word_at(self.file, mid) < word {
                 lo = mid + 1;
             } else {
                 hi = mid;

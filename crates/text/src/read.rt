@@ -4,6 +4,7 @@ ghost use Rattle.lines.specs.Digits.{Digit};
 ghost use Rattle.text.specs.SheetText.{Reads};
 ghost use Rattle.text.specs.Fields.{FoundTo, ending};
 
+use lines::bytes::{LINE_END, SPACE, ZERO};
 use std::marker::Model;
 
 // The numbers of eight jobs.
@@ -12,21 +13,27 @@ const MOST: usize = 32;
 // The digits of the longest number.
 const MOST_DIGITS: usize = 3;
 
-// The numbers of a sheet as a text says them, four to a job: the first `count` of an array, for there is no heap.
-#[derive(Drop)]
+// The numbers of a sheet as a text says them, four to a job: the first `count` of an array, for there is no heap, and zeros past them.
+#[derive(Clone, Copy)]
 pub struct Numbers {
     numbers: [u16; MOST],
     count: usize,
 }
 
 impl Model for Numbers {
-    ghost use Rattle.std.specs.Prelude.{ℕ, List, ◌≤◌, take};
+    ghost use Rattle.std.specs.Prelude.{ℕ, List, ◌-◌, ◌++◌, length, take, replicate};
+    ghost use Rattle.text.specs.Padded.{Padded};
+    ghost use Rattle.text.specs.PaddedLaws.{array_back, count_back};
 
     ghost Value = { List ℕ };
 
     ghost view = { λ n. take n.count n.numbers };
 
-    ghost invariant = { λ n. n.count ≤ 32 };
+    ghost invariant = { λ n. Padded n.numbers n.count };
+
+    ghost inverse = { λ l. record { numbers = l ++ replicate (32 - length l) 0; count = length l } };
+
+    ghost inverse_ok = { λ a h i. record { numbers = array_back h i; count = count_back h i } };
 }
 
 impl Numbers {
@@ -48,7 +55,7 @@ struct Field {
 fn end_of(k: usize) -> u8
     ensures { result ≡ ending k }
 {
-    if k % 4 == 3 { b'\n' } else { b' ' }
+    if k % 4 == 3 { LINE_END } else { SPACE }
 }
 
 // The number of one to three digits in front of a text, with the byte `end` behind it. Digits are passed; the first other byte decides.
@@ -69,7 +76,7 @@ fn number_in_front(text: &[u8], end: u8) -> Option<Field>
         if digits == MOST_DIGITS || !b.is_ascii_digit() {
             return None;
         }
-        value = 10 * value + u16::from(*b - b'0');
+        value = 10 * value + u16::from(*b - ZERO);
     }
     None
 }

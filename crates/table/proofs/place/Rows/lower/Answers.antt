@@ -1,7 +1,6 @@
 -- What is below stays below, and what is not stays not. Assumes nothing.
-use Rattle.std.proofs.Common.{arith, ap}
-use Rattle.sheet.specs.Table.{Entry}
-use Rattle.table.specs.PlaceLaws.{count_seen, ascend_seen, search_up, search_down}
+use Rattle.std.proofs.Common.{arith, ◌∙◌}
+use Rattle.table.specs.PlaceLaws.{count_seen, word_seen, ascend_seen, search_up, search_down}
 use Rattle.table.proofs.place.Rows.lower.Goals as goal
 
 pub loop-lo-init : goal.loop-lo-init
@@ -9,10 +8,15 @@ loop-lo-init c =
     let n = count_seen _ _ _ c.self.view_is in
     record { ordered = omega arith; inside = omega arith; below = λ i h. absurd (omega arith); above = λ i h l. absurd (omega arith) }
 
-pub loop-lo-preserved-then-row-word : goal.loop-lo-preserved-then-row-word
-loop-lo-preserved-then-row-word c =
+pub word_at-requires : goal.word_at-requires
+word_at-requires c =
+    let n = count_seen _ _ _ c.self.view_is in
+    (omega (arith, c.self.invariant.few), c.self.invariant.inside _ (omega arith))
+
+pub loop-lo-preserved-then-word_at-word : goal.loop-lo-preserved-then-word_at-word
+loop-lo-preserved-then-word_at-word c =
     let v = c.loop-lo.invariant in
-    let w = ap (λ (x : Entry). x.word) c.row.ensures in
+    let w = c.word_at.ensures ∙ word_seen _ _ _ c.self.view_is _ (omega arith) in
     record {
       ordered = omega arith;
       inside = v.inside;
@@ -23,7 +27,7 @@ loop-lo-preserved-then-row-word c =
 pub loop-lo-preserved : goal.loop-lo-preserved
 loop-lo-preserved c =
     let v = c.loop-lo.invariant in
-    let w = ap (λ (x : Entry). x.word) c.row.ensures in
+    let w = c.word_at.ensures ∙ word_seen _ _ _ c.self.view_is _ (omega arith) in
     record {
       ordered = omega arith;
       inside = omega arith;
