@@ -81,7 +81,8 @@ impl Page<'_> {
         requires { HasRoom self.old line_bytes }
         ensures { Adds self.old (header_line n rows) self.new }
     {
-        self.put_pair(b"jobs ", u32::from(n), b" states ", rows);
+        let jobs = u32::from(n);
+        self.put_pair(b"jobs ", jobs, b" states ", rows);
     }
 
     // Prints a refusal: its number and detail.
