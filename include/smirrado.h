@@ -59,7 +59,7 @@ extern "C" {
 #define SMIRRADO_LISTING_STACK 512   /* 309 */
 #define SMIRRADO_LEEWAY_STACK 512    /* 245 */
 #define SMIRRADO_STEP_STACK 512      /* 453 */
-#define SMIRRADO_ENGINE_STACK 131072 /* 25,928 */
+#define SMIRRADO_ENGINE_STACK 131072 /* 25,940 */
 
 #define SMIRRADO_JOBS 8           /* the most jobs of a sheet */
 #define SMIRRADO_ENGINE_JOBS 4    /* the most jobs of a sheet that engine judges */

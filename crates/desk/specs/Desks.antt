@@ -1,6 +1,7 @@
 -- A state put on a desk, and a state read off it.
 use Rattle.std.specs.Prelude.{◌≡◌, Result, MatchResult}
-use Rattle.state.specs.Clocks.{Known, model}
+use Rattle.state.specs.Clocks.{model}
+use Rattle.state.specs.Statuses.{Known}
 use Rattle.state.specs.declared.status.UnknownStatus.{UnknownStatus}
 use Rattle.state.specs.declared.word.State.{State}
 use Rattle.desk.specs.Stepping.{state_in, desk_of}

@@ -10,7 +10,8 @@ use Rattle.sheet.specs.ModelTestsRight.{is_possible}
 use Rattle.sheet.specs.ModelTests.{named, possible}
 use Rattle.sheet.specs.Table.{Entry, at}
 use Rattle.sheet.specs.Form.{InOrder, FinishedState, UnderWay, Fits, GoodRows}
-use Rattle.state.specs.Clocks.{Known, model}
+use Rattle.state.specs.Clocks.{model}
+use Rattle.state.specs.Statuses.{Known}
 use Rattle.state.specs.EventByte.{event_in_rules}
 use Rattle.look.specs.LateLaws.{tick_fits}
 use Rattle.look.specs.Look.{look_of}

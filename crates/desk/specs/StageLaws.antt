@@ -7,7 +7,8 @@ use Rattle.sheet.specs.Model.{Sheet, Good, word}
 use Rattle.sheet.specs.Model as rules
 use Rattle.sheet.specs.Form.{GoodRows}
 use Rattle.sheet.specs.Table.{Entry, at, Ascending}
-use Rattle.state.specs.Clocks.{Known, model}
+use Rattle.state.specs.Clocks.{model}
+use Rattle.state.specs.Statuses.{Known}
 use Rattle.state.specs.declared.word.State.{State}
 use Rattle.blocks.specs.Rows.{entry_of}
 use Rattle.blocks.specs.declared.row.Row.{Row}

@@ -4,7 +4,8 @@ use Rattle.std.proofs.Math.Option.{some}
 use Rattle.sheet.specs.Model.{Sheet, word}
 use Rattle.sheet.specs.ModelTests.{possible}
 use Rattle.sheet.specs.Table.{Entry, at}
-use Rattle.state.specs.Clocks.{Known, model}
+use Rattle.state.specs.Clocks.{model}
+use Rattle.state.specs.Statuses.{Known}
 use Rattle.state.specs.EventByte.{event_of, event_in_rules, kind_of}
 use Rattle.state.specs.Refusals.{refusal_number, refusal_detail}
 use Rattle.state.specs.declared.event.Event.{Event}

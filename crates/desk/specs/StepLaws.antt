@@ -7,7 +7,7 @@ use Rattle.plant.specs.Reflect.{Is, is_map, is_le, is_and, is_eq}
 use Rattle.sheet.specs.Model.{Sheet, State, next, word}
 use Rattle.sheet.specs.ModelTests.{possible}
 use Rattle.sheet.specs.Table.{Entry, at}
-use Rattle.state.specs.Clocks.{Known}
+use Rattle.state.specs.Statuses.{Known}
 use Rattle.state.specs.Tell.{tell_yes}
 use Rattle.state.specs.EventByte.{event_of, kind_of}
 use Rattle.state.specs.declared.event.Event as code

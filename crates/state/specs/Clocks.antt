@@ -2,7 +2,6 @@
 use Rattle.std.specs.Prelude.{ℕ, ◌≡◌}
 use Rattle.sheet.specs.Model as rules
 use Rattle.state.specs.declared.word.State.{State}
-pub use Rattle.state.specs.Statuses.{Known}
 
 -- "the tick now, the elapsed ticks of the running job (0 where none runs) and the eight statuses"
 abbrev pub model : State → rules.State
