@@ -54,11 +54,11 @@ extern "C" {
 #endif
 
 #define SMIRRADO_MAKE_STACK 40960    /* measured: 35,504 */
-#define SMIRRADO_ROW_STACK 512       /* 245 */
-#define SMIRRADO_ROW_QUICK_STACK 512 /* 245 */
-#define SMIRRADO_LISTING_STACK 512   /* 309 */
-#define SMIRRADO_LEEWAY_STACK 512    /* 245 */
-#define SMIRRADO_STEP_STACK 512      /* 453 */
+#define SMIRRADO_ROW_STACK 512       /* 241 */
+#define SMIRRADO_ROW_QUICK_STACK 512 /* 241 */
+#define SMIRRADO_LISTING_STACK 512   /* 305 */
+#define SMIRRADO_LEEWAY_STACK 512    /* 241 */
+#define SMIRRADO_STEP_STACK 512      /* 449 */
 #define SMIRRADO_ENGINE_STACK 131072 /* 25,940 */
 
 #define SMIRRADO_JOBS 8           /* the most jobs of a sheet */
